@@ -7,7 +7,7 @@ use native.Mathlib.Nat.{zero-div, div-eq-of-lt}
 use native.Mathlib.Omega.{arith}
 use lib.IntN.{ℤ, pos, negsuc, negℤ, natAbs, _+ℤ_, _-ℤ_, _*ℤ_}
 use lib.Signed.{leZ, _≤ℤ_, _<ℤ_}
-use Rattle.whole.specs.Numbers.{minℤ, maxℤ, absℤ, down, up, ceiling}
+use Rattle.whole.specs.Numbers.{minℤ, maxℤ, absℤ, dividedDown, dividedUp, ceiling}
 use Rattle.whole.proofs.PlusMinus.{plus, minus, le-says, le-by, lt-says, lt-by, not-le-says, eq-says, eq-by, either-way, add-is, neg-is, sub-is, neg-plus, neg-minus, abs-is, one-is-zero}
 
 infixl 6 _⊕_ _⊖_
@@ -30,8 +30,8 @@ value (a ⊖ b) = value a -ℤ value b
 value (a ⊛ b) = value a *ℤ value b
 value (a ⊓ b) = minℤ (value a) (value b)
 value (a ⊔ b) = maxℤ (value a) (value b)
-value (a ÷↓ k) = down (value a) k
-value (a ÷↑ k) = up (value a) k
+value (a ÷↓ k) = dividedDown (value a) k
+value (a ÷↑ k) = dividedUp (value a) k
 
 pub record Difference : Type 0 where
   pub p : ℕ
@@ -95,23 +95,23 @@ ceiling-zero (suc k) = ap (λ (t : ℕ). t / suc k) (let e : 0 + (suc k - 1) ≡
     less : (k : ℕ) → k / suc k ≡ 0
     less k = div-eq-of-lt (let h : k < suc k = omega arith in h)
 
-pub down-plus : (x : ℤ) (k : ℕ) → plus (down x k) ≡ plus x / k
-unfolding down
+pub down-plus : (x : ℤ) (k : ℕ) → plus (dividedDown x k) ≡ plus x / k
+unfolding dividedDown
 down-plus (pos n) k = refl
 down-plus (negsuc n) k = neg-plus (ceiling (suc n) k) ∙ sym (zero-div k)
 
-pub down-minus : (x : ℤ) (k : ℕ) → minus (down x k) ≡ ceiling (minus x) k
-unfolding down
+pub down-minus : (x : ℤ) (k : ℕ) → minus (dividedDown x k) ≡ ceiling (minus x) k
+unfolding dividedDown
 down-minus (pos n) k = sym (ceiling-zero k)
 down-minus (negsuc n) k = neg-minus (ceiling (suc n) k)
 
-pub up-plus : (x : ℤ) (k : ℕ) → plus (up x k) ≡ ceiling (plus x) k
-unfolding up
+pub up-plus : (x : ℤ) (k : ℕ) → plus (dividedUp x k) ≡ ceiling (plus x) k
+unfolding dividedUp
 up-plus (pos n) k = refl
 up-plus (negsuc n) k = neg-plus (suc n / k) ∙ sym (ceiling-zero k)
 
-pub up-minus : (x : ℤ) (k : ℕ) → minus (up x k) ≡ minus x / k
-unfolding up
+pub up-minus : (x : ℤ) (k : ℕ) → minus (dividedUp x k) ≡ minus x / k
+unfolding dividedUp
 up-minus (pos n) k = sym (zero-div k)
 up-minus (negsuc n) k = neg-minus (suc n / k)
 
@@ -136,10 +136,10 @@ is (a ⊖ b) = let h = is a in let k = is b in omega (arith, sub-is (value a) (v
 is (a ⊛ b) = is-mul (value a) (value b) (split a .p) (split a .n) (split b .p) (split b .n) (is a) (is b)
 is (a ⊓ b) = is-min (value a) (value b) (split a .p) (split a .n) (split b .p) (split b .n) (is a) (is b)
 is (a ⊔ b) = is-max (value a) (value b) (split a .p) (split a .n) (split b .p) (split b .n) (is a) (is b)
-is (a ÷↓ k) = parts (down (value a) k) ((split a .p - split a .n) / k) (ceiling (split a .n - split a .p) k)
+is (a ÷↓ k) = parts (dividedDown (value a) k) ((split a .p - split a .n) / k) (ceiling (split a .n - split a .p) k)
     (down-plus (value a) k ∙ ap (λ (t : ℕ). t / k) (plus-of (value a) (split a .p) (split a .n) (is a)))
     (down-minus (value a) k ∙ ap (λ (t : ℕ). ceiling t k) (minus-of (value a) (split a .p) (split a .n) (is a)))
-is (a ÷↑ k) = parts (up (value a) k) (ceiling (split a .p - split a .n) k) ((split a .n - split a .p) / k)
+is (a ÷↑ k) = parts (dividedUp (value a) k) (ceiling (split a .p - split a .n) k) ((split a .n - split a .p) / k)
     (up-plus (value a) k ∙ ap (λ (t : ℕ). ceiling t k) (plus-of (value a) (split a .p) (split a .n) (is a)))
     (up-minus (value a) k ∙ ap (λ (t : ℕ). t / k) (minus-of (value a) (split a .p) (split a .n) (is a)))
 

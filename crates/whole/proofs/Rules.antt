@@ -11,7 +11,7 @@ use lib.Signed.{leZ, ltZ, _≤ℤ_, _<ℤ_, ltZ-no}
 use mir.Syntax.{w64}
 use mir.Val.{SFits}
 use mir.Facts.{toZ-ofZ}
-use Rattle.whole.specs.Numbers.{minℤ, maxℤ, absℤ, down, up, ceiling}
+use Rattle.whole.specs.Numbers.{minℤ, maxℤ, absℤ, dividedDown, dividedUp, ceiling}
 use Rattle.whole.specs.Bounds.{between, _within_, _upto_}
 use Rattle.whole.proofs.PlusMinus.{plus, minus, le-says, le-by, lt-says, lt-by, not-le-says, eq-says, eq-by, abs-is, one-is-zero}
 use Rattle.whole.proofs.Expressions.{Expression, var, lit, neg, size, _⊕_, _⊖_, _⊛_, _⊓_, _⊔_, _÷↓_, _÷↑_, value, split, is, eq?}
@@ -106,10 +106,10 @@ max-says r x y e = eq? (var r) (var x ⊔ var y) e
 pub abs-says : (r x : ℤ) → r ≡ absℤ x → plus r + (plus x + minus x) ≡ max (plus x + plus x) (minus x + minus x) + minus r
 abs-says r x e = eq? (var r) (size (var x)) e
 
-pub down-says : (r x : ℤ) (k : ℕ) → r ≡ down x k → plus r + ceiling (minus x - plus x) k ≡ (plus x - minus x) / k + minus r
+pub down-says : (r x : ℤ) (k : ℕ) → r ≡ dividedDown x k → plus r + ceiling (minus x - plus x) k ≡ (plus x - minus x) / k + minus r
 down-says r x k e = eq? (var r) (var x ÷↓ k) e
 
-pub up-says : (r x : ℤ) (k : ℕ) → r ≡ up x k → plus r + (minus x - plus x) / k ≡ ceiling (plus x - minus x) k + minus r
+pub up-says : (r x : ℤ) (k : ℕ) → r ≡ dividedUp x k → plus r + (minus x - plus x) / k ≡ ceiling (plus x - minus x) k + minus r
 up-says r x k e = eq? (var r) (var x ÷↑ k) e
 
 pub ruleset ints = (arith, within-says, within-by, upto-says, le-says, le-by, lt-says, lt-by,

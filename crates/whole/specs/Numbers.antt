@@ -21,11 +21,11 @@ abbrev pub ceiling : ℕ → ℕ → ℕ
 ceiling n k = (n + (k - 1)) / k
 
 -- x / k rounded down, toward minus infinity
-unfoldable pub down : ℤ → ℕ → ℤ
-down (pos n) k = pos (n / k)
-down (negsuc n) k = negℤ (pos (ceiling (suc n) k))
+unfoldable pub dividedDown : ℤ → ℕ → ℤ
+dividedDown (pos n) k = pos (n / k)
+dividedDown (negsuc n) k = negℤ (pos (ceiling (suc n) k))
 
 -- x / k rounded up, toward plus infinity
-unfoldable pub up : ℤ → ℕ → ℤ
-up (pos n) k = pos (ceiling n k)
-up (negsuc n) k = negℤ (pos (suc n / k))
+unfoldable pub dividedUp : ℤ → ℕ → ℤ
+dividedUp (pos n) k = pos (ceiling n k)
+dividedUp (negsuc n) k = negℤ (pos (suc n / k))

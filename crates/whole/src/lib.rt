@@ -4,7 +4,7 @@ ghost use lib.IntN.{pos, natAbs};
 ghost use lib.Signed.{_≤ℤ_};
 ghost use mir.Syntax.{w64};
 ghost use mir.Val.{SFits};
-ghost use Rattle.whole.specs.Numbers.{minℤ, maxℤ, absℤ, down, up};
+ghost use Rattle.whole.specs.Numbers.{minℤ, maxℤ, absℤ, dividedDown, dividedUp};
 ghost use Rattle.whole.specs.Bounds.{between};
 
 // The arithmetic of i64 that the engine's code shares. Nothing here wraps: where an answer could leave the range, the caller
@@ -42,7 +42,7 @@ pub fn size(x: i64) -> i64
 // x / by rounded down, for x from 0 up.
 pub fn divided_down(x: i64, by: i64) -> i64
     requires { ⌜ (pos 0 ≤ℤ x) × (pos 1 ≤ℤ by) ⌝ }
-    ensures { λ r. ⌜ (r ≡ down x (natAbs by)) × SFits w64 r ⌝ }
+    ensures { λ r. ⌜ (r ≡ dividedDown x (natAbs by)) × SFits w64 r ⌝ }
 {
     x / by
 }
@@ -50,7 +50,7 @@ pub fn divided_down(x: i64, by: i64) -> i64
 // x / by rounded up, for x from 0 up.
 pub fn divided_up(x: i64, by: i64) -> i64
     requires { ⌜ (pos 0 ≤ℤ x) × (pos 1 ≤ℤ by) × (natAbs x + natAbs by < 2 ^ 63) ⌝ }
-    ensures { λ r. ⌜ (r ≡ up x (natAbs by)) × SFits w64 r ⌝ }
+    ensures { λ r. ⌜ (r ≡ dividedUp x (natAbs by)) × SFits w64 r ⌝ }
 {
     divided_down(x + (by - 1), by)
 }

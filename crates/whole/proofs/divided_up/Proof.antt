@@ -2,7 +2,7 @@
 use mathlib.Core.Path.{_≡_, sym, ap, ap₂, _∙_, subst}
 use lib.IntN.{ℤ, pos, natAbs, _+ℤ_, _-ℤ_}
 use mir.Facts.{toZ-ofZ}
-use Rattle.whole.specs.Numbers.{down}
+use Rattle.whole.specs.Numbers.{dividedDown}
 use Rattle.whole.proofs.PlusMinus.{abs-is}
 use Rattle.whole.proofs.Expressions.{Expression, var, lit, _⊕_, _⊖_, le!}
 use Rattle.whole.proofs.Machine.{Runs, need!, runs, fits-back}
@@ -31,7 +31,7 @@ returns : tie.Need-returns
 returns c =
     let s = c .before in
     let r = c .divided-down .ensures in
-    (toZ-ofZ (r .1) ∙ r .0 ∙ ap₂ (λ (z y : ℤ). down z (natAbs y)) (runs (raised s) (ok s)) (toZ-ofZ (s .fits .by)) ∙ down-up (s .args .x) (s .args .by) (s .pre .0) (s .pre .1),
+    (toZ-ofZ (r .1) ∙ r .0 ∙ ap₂ (λ (z y : ℤ). dividedDown z (natAbs y)) (runs (raised s) (ok s)) (toZ-ofZ (s .fits .by)) ∙ down-up (s .args .x) (s .args .by) (s .pre .0) (s .pre .1),
       fits-back (r .1))
 
 pub divided-up-spec : {M : Type 1} → statement M
