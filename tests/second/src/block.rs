@@ -1,0 +1,77 @@
+//! Document 01, "Block": the 288 numbers of one account and the rules they keep.
+
+use std::ops::Range;
+
+use crate::units::*;
+
+pub type Block = [i64; BLOCK];
+
+/// Account kinds, number 0 of a block.
+pub const NOT_OPEN: i64 = 0;
+pub const ORDINARY: i64 = 1;
+pub const POOL: i64 = 2;
+/// A pool of the list in 2.4.2.
+pub const LISTED_POOL: i64 = 3;
+
+pub const KIND: usize = 0;
+pub const RUBLES: usize = 1;
+/// Ruble net of trades by date.
+pub const NETS: Range<usize> = 2..10;
+const UNUSED: Range<usize> = 10..FIRST_HOLDING;
+const FIRST_HOLDING: usize = 16;
+
+/// The 17 numbers an account has of one asset.
+pub type Holding = [i64; HOLDING];
+const HOLDING: usize = 1 + 2 * DATES;
+
+pub const COLLATERAL: usize = 0;
+pub const CLAIMS: Range<usize> = 1..1 + DATES;
+pub const OBLIGATIONS: Range<usize> = 1 + DATES..HOLDING;
+
+/// Where an asset's holding starts in the block: 16 + 17a.
+pub fn holding_start(asset: usize) -> usize {
+    FIRST_HOLDING + HOLDING * asset
+}
+
+pub fn holdings(block: &Block) -> &[Holding] {
+    block[FIRST_HOLDING..].as_chunks().0
+}
+
+pub fn holdings_mut(block: &mut Block) -> &mut [Holding] {
+    block[FIRST_HOLDING..].as_chunks_mut().0
+}
+
+pub fn is_zero(numbers: &[i64]) -> bool {
+    numbers.iter().all(|&number| number == 0)
+}
+
+/// The block rules.
+pub fn is_sound(block: &Block) -> bool {
+    match block[KIND] {
+        NOT_OPEN => is_zero(block),
+        ORDINARY..=LISTED_POOL => {
+            block[RUBLES..NETS.end].iter().all(rubles_in_bounds)
+                && is_zero(&block[UNUSED])
+                && holdings(block).iter().all(holding_is_sound)
+        }
+        _ => false,
+    }
+}
+
+pub fn rubles_in_bounds(rubles: &i64) -> bool {
+    (-MOST_RUBLES..=MOST_RUBLES).contains(rubles)
+}
+
+/// Collateral in units of an asset.
+pub fn collateral_in_bounds(units: &i64) -> bool {
+    (-MOST_UNITS..=MOST_UNITS).contains(units)
+}
+
+/// A date's claims or obligations in units of an asset.
+pub fn trades_in_bounds(units: &i64) -> bool {
+    (0..=MOST_UNITS).contains(units)
+}
+
+fn holding_is_sound(holding: &Holding) -> bool {
+    collateral_in_bounds(&holding[COLLATERAL]) && holding[CLAIMS.start..].iter().all(trades_in_bounds)
+}

@@ -1,0 +1,119 @@
+//! Document 01, "Calls and turning away": the codes, and the looks every call takes first, in the table's order.
+
+mod moving;
+mod open;
+mod order;
+mod report;
+mod roll;
+
+pub use moving::{Move, RUBLES, move_collateral};
+pub use open::open;
+pub(crate) use order::leave_in_bounds;
+pub use order::{BUY, Order, SELL, order};
+pub use report::report;
+pub use roll::roll;
+
+use std::mem;
+
+use crate::block::{self, Block, is_zero};
+use crate::limit::figures;
+use crate::tables::{Lent, Tables};
+use crate::units::{ACCOUNTS, BOOK};
+
+/// Why a call is turned away; its number is the code. Checked in the order 1, 2, 3, 6, 4, 5, 7, 8, 9, 10.
+#[derive(Clone, Copy, Debug, PartialEq)]
+#[repr(u8)]
+pub enum Refusal {
+    WrongLength = 1,
+    BrokenTable = 2,
+    NoSuchAccount = 3,
+    NotOpen = 4,
+    AlreadyOpen = 5,
+    BrokenBlock = 6,
+    NoSuchChoice = 7,
+    WrongAmount = 8,
+    OutOfBounds = 9,
+    LimitBelowZero = 10,
+}
+
+pub const DONE: u8 = 0;
+
+pub fn code<T>(answer: &Result<T, Refusal>) -> u8 {
+    answer.as_ref().err().map_or(DONE, |&refusal| refusal as u8)
+}
+
+/// The call "check tables": its code, and the place of the first broken number with code 2, else 0.
+pub fn check_tables(lent: &Lent) -> (u8, usize) {
+    match lent.tables().map(|tables| tables.first_broken()) {
+        None => (Refusal::WrongLength as u8, 0),
+        Some(Some(place)) => (Refusal::BrokenTable as u8, place),
+        Some(None) => (DONE, 0),
+    }
+}
+
+/// Codes 1, 2 and 3 of a call that is lent tables: the tables and the account's number.
+fn first_look<'a>(book: &[i64], lent: &Lent<'a>, account: i64) -> Result<(Tables<'a>, usize), Refusal> {
+    refuse_unless(book.len() == BOOK, Refusal::WrongLength)?;
+    let tables = lent.tables().ok_or(Refusal::WrongLength)?;
+    rule!((); AccountBeforeTables => refuse_unless(account_number(account).is_ok(), Refusal::NoSuchAccount)?);
+    refuse_unless(tables.first_broken().is_none(), Refusal::BrokenTable)?;
+    Ok((tables, account_number(account)?))
+}
+
+/// Codes 1 and 3 of a call that is lent the book alone.
+fn first_look_at_book(book: &[i64], account: i64) -> Result<usize, Refusal> {
+    refuse_unless(book.len() == BOOK, Refusal::WrongLength)?;
+    account_number(account)
+}
+
+fn account_number(account: i64) -> Result<usize, Refusal> {
+    index(account, ACCOUNTS).ok_or(Refusal::NoSuchAccount)
+}
+
+/// Codes 6 and 4. Where tables are lent, an unlisted asset held is 6 too.
+pub(crate) fn open_block(block: &Block, tables: Option<&Tables>) -> Result<(), Refusal> {
+    let sound = block::is_sound(block) && tables.is_none_or(|tables| holdings_are_listed(block, tables));
+    refuse_unless(sound, Refusal::BrokenBlock)?;
+    refuse_unless(block[block::KIND] != block::NOT_OPEN, Refusal::NotOpen)
+}
+
+fn holdings_are_listed(block: &Block, tables: &Tables) -> bool {
+    let mut holdings = block::holdings(block).iter().enumerate();
+    rule!(holdings.all(|(asset, holding)| tables.is_listed(asset) || is_zero(holding)); UnlistedHoldingPasses => true)
+}
+
+/// A number of the block, and what a call makes of it.
+#[derive(Clone, Copy)]
+pub struct Change {
+    pub place: usize,
+    pub after: i64,
+}
+
+/// Makes the changes; handed back is what takes them back.
+pub fn make<const COUNT: usize>(block: &mut Block, changes: [Change; COUNT]) -> [Change; COUNT] {
+    changes.map(|Change { place, after }| Change { place, after: mem::replace(&mut block[place], after) })
+}
+
+/// Code 10: makes the changes, and takes them back where the limit after them is negative.
+fn make_within_limit<const COUNT: usize>(
+    block: &mut Block,
+    changes: [Change; COUNT],
+    tables: &Tables,
+) -> Result<(), Refusal> {
+    let before = make(block, changes);
+    let limit = figures(block, tables).limit();
+    if rule!(limit < 0; LimitOfZeroRefused => limit <= 0, LimitBelowByOneAdmitted => limit < -1) {
+        make(block, before);
+        return Err(Refusal::LimitBelowZero);
+    }
+    Ok(())
+}
+
+fn refuse_unless(good: bool, refusal: Refusal) -> Result<(), Refusal> {
+    if good { Ok(()) } else { Err(refusal) }
+}
+
+/// A caller's number as an index below `count`.
+fn index(number: i64, count: usize) -> Option<usize> {
+    usize::try_from(number).ok().filter(|&index| index < count)
+}

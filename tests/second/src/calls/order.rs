@@ -1,0 +1,70 @@
+//! Document 01, the call "order": booked as a trade at once (house).
+
+use super::{Change, Refusal, first_look, index, make_within_limit, open_block, refuse_unless};
+use crate::block::{self, Block, CLAIMS, NETS, OBLIGATIONS, holding_start};
+use crate::tables::{Lent, Tables};
+use crate::units::*;
+
+pub const BUY: i64 = 0;
+pub const SELL: i64 = 1;
+
+#[derive(Clone, Copy)]
+pub struct Order {
+    pub account: i64,
+    pub asset: i64,
+    pub date: i64,
+    pub side: i64,
+    pub quantity: i64,
+    pub money: i64,
+}
+
+pub fn order(book: &mut [i64], lent: &Lent, wanted: &Order) -> Result<(), Refusal> {
+    let (tables, account) = first_look(book, lent, wanted.account)?;
+    let block = &mut book.as_chunks_mut::<BLOCK>().0[account];
+    open_block(block, Some(&tables))?;
+    let (asset, date) = wanted.choice(&tables)?;
+    let changes = wanted.changes(block, asset, date);
+    rule!((); BoundsBeforeAmount => leave_in_bounds(changes)?);
+    wanted.amounts()?;
+    rule!((); LimitBeforeBounds => make_within_limit(&mut block.clone(), changes, &tables)?);
+    leave_in_bounds(changes)?;
+    make_within_limit(block, changes, &tables)
+}
+
+impl Order {
+    /// Code 7: the asset and the date.
+    pub(crate) fn choice(&self, tables: &Tables) -> Result<(usize, usize), Refusal> {
+        let asset = index(self.asset, ASSETS).filter(|&asset| tables.is_listed(asset));
+        match (asset, index(self.date, DATES), self.side) {
+            (Some(asset), Some(date), BUY | SELL) => Ok((asset, date)),
+            _ => {
+                rule!(Err(Refusal::NoSuchChoice); AmountBeforeChoice => self.amounts().and(Err(Refusal::NoSuchChoice)))
+            }
+        }
+    }
+
+    /// Code 8.
+    pub(crate) fn amounts(&self) -> Result<(), Refusal> {
+        let good = (1..=MOST_UNITS).contains(&self.quantity) && (0..=MOST_RUBLES).contains(&self.money);
+        refuse_unless(good, Refusal::WrongAmount)
+    }
+
+    /// A buy adds to the date's claim and takes the money from the date's ruble net; a sell adds to obligation and adds
+    /// the money. Saturating, because the amounts may be any: past 64 bits is past every bound.
+    pub fn changes(&self, block: &Block, asset: usize, date: usize) -> [Change; 2] {
+        let (trades, money) =
+            if self.side == BUY { (CLAIMS, self.money.saturating_neg()) } else { (OBLIGATIONS, self.money) };
+        let units = holding_start(asset) + trades.start + date;
+        let net = NETS.start + date;
+        [
+            Change { place: units, after: block[units].saturating_add(self.quantity) },
+            Change { place: net, after: block[net].saturating_add(money) },
+        ]
+    }
+}
+
+/// Code 9.
+pub(crate) fn leave_in_bounds([units, net]: [Change; 2]) -> Result<(), Refusal> {
+    let good = block::trades_in_bounds(&units.after) && block::rubles_in_bounds(&net.after);
+    refuse_unless(good, Refusal::OutOfBounds)
+}

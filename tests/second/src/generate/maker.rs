@@ -1,0 +1,165 @@
+//! The session being made: each line is also answered at once, so that the scenes can steer by the state it leads to.
+
+use super::random::Random;
+use crate::asset::Asset;
+use crate::block::{self, Block};
+use crate::calls::{self, BUY, Move, Order, RUBLES, SELL};
+use crate::frame::Frame;
+use crate::limit::figures;
+use crate::row::Row;
+use crate::session::Session;
+use crate::tables::{Tables, clearing_place, is_present, own_place};
+use crate::units::*;
+
+pub struct Maker {
+    pub random: Random,
+    /// The spread group most rows of this session are in.
+    pub group: i64,
+    session: Session,
+    text: Vec<u8>,
+    left: usize,
+}
+
+impl Maker {
+    pub fn new(seed: u64, lines: usize) -> Maker {
+        let mut random = Random::new(seed);
+        let group = random.between(1, GROUPS as i64);
+        Maker { random, group, session: Session::default(), text: Vec::new(), left: lines }
+    }
+
+    pub fn is_full(&self) -> bool {
+        self.left == 0
+    }
+
+    pub fn into_text(self) -> Vec<u8> {
+        self.text
+    }
+
+    /// Adds a line of any form, while there is room.
+    pub fn line(&mut self, line: &[u8]) {
+        if self.is_full() {
+            return;
+        }
+        self.left -= 1;
+        self.text.extend_from_slice(line);
+        self.text.push(b'\n');
+        self.session.answer(line, &mut Vec::new());
+    }
+
+    pub fn say(&mut self, frame: &Frame) {
+        self.line(&frame.line());
+    }
+
+    pub fn set(&mut self, place: usize, number: i64) {
+        self.say(&Frame::Set { place, number });
+    }
+
+    pub fn open(&mut self, account: usize, kind: i64) {
+        self.say(&Frame::Open { account: account as i64, kind });
+    }
+
+    pub fn move_units(&mut self, account: usize, asset: usize, amount: i64) {
+        self.say(&Frame::Move(Move { account: account as i64, asset: asset as i64, amount }));
+    }
+
+    pub fn move_rubles(&mut self, account: usize, amount: i64) {
+        self.say(&Frame::Move(Move { account: account as i64, asset: RUBLES, amount }));
+    }
+
+    pub fn buy(&mut self, account: usize, asset: usize, date: usize, quantity: i64, money: i64) {
+        self.say(&Frame::Order(order(account, asset, date, BUY, quantity, money)));
+    }
+
+    pub fn sell(&mut self, account: usize, asset: usize, date: usize, quantity: i64, money: i64) {
+        self.say(&Frame::Order(order(account, asset, date, SELL, quantity, money)));
+    }
+
+    pub fn roll(&mut self, account: usize) {
+        self.say(&Frame::Roll { account: account as i64 });
+    }
+
+    pub fn report(&mut self, account: usize) {
+        self.say(&Frame::Report { account: account as i64 });
+    }
+
+    pub fn block(&self, account: usize) -> &Block {
+        self.session.block(account)
+    }
+
+    pub fn parameter(&self, place: usize) -> i64 {
+        self.session.parameters()[place]
+    }
+
+    pub fn tables(&self) -> Tables<'_> {
+        self.session.lent().tables().expect("the session's tables have their lengths")
+    }
+
+    pub fn tables_are_sound(&self) -> bool {
+        self.tables().first_broken().is_none()
+    }
+
+    /// An account that is open, under sound tables, and all whose holdings are listed.
+    pub fn ready_account(&mut self) -> Option<usize> {
+        let ready = |&account: &usize| self.limit(account).is_some();
+        let accounts: Vec<_> = (0..ACCOUNTS).filter(ready).collect();
+        (!accounts.is_empty()).then(|| self.random.pick(&accounts))
+    }
+
+    pub fn open_account(&mut self) -> Option<usize> {
+        let open = |&account: &usize| self.block(account)[block::KIND] != block::NOT_OPEN;
+        let accounts: Vec<_> = (0..ACCOUNTS).filter(open).collect();
+        (!accounts.is_empty()).then(|| self.random.pick(&accounts))
+    }
+
+    pub fn closed_account(&mut self) -> Option<usize> {
+        let closed = |&account: &usize| self.block(account)[block::KIND] == block::NOT_OPEN;
+        let accounts: Vec<_> = (0..ACCOUNTS).filter(closed).collect();
+        (!accounts.is_empty()).then(|| self.random.pick(&accounts))
+    }
+
+    pub fn asset(&mut self, listed: bool) -> Option<usize> {
+        let assets: Vec<_> = (0..ASSETS).filter(|&asset| self.tables().is_listed(asset) == listed).collect();
+        (!assets.is_empty()).then(|| self.random.pick(&assets))
+    }
+
+    pub fn has_own_row(&self, asset: usize) -> bool {
+        is_present(&self.tables().own[asset])
+    }
+
+    /// Sets a number of the row in force, where it differs.
+    pub fn set_in_force(&mut self, asset: usize, number: usize, value: i64) {
+        let place = if self.has_own_row(asset) { own_place(asset, number) } else { clearing_place(asset, number) };
+        if self.parameter(place) != value {
+            self.set(place, value);
+        }
+    }
+
+    pub fn row_in_force(&self, asset: usize) -> Row {
+        *self.tables().row_in_force(asset)
+    }
+
+    /// The limit a report would give, if it gives one.
+    pub fn limit(&self, account: usize) -> Option<i64> {
+        let lent = self.session.lent();
+        let book = self.session.book();
+        calls::report(book, &lent, account as i64).ok().map(|figures| figures.limit())
+    }
+
+    /// The limit of a ready account after a change to its block.
+    pub fn limit_after(&self, account: usize, change: impl FnOnce(&mut Block)) -> i64 {
+        let mut block = *self.block(account);
+        change(&mut block);
+        figures(&block, &self.tables()).limit()
+    }
+
+    pub fn positions(&self, account: usize, asset: usize) -> [i64; DATES] {
+        let block = self.block(account);
+        let tables = self.tables();
+        let holding = &block::holdings(block)[asset];
+        Asset::new(block[block::KIND], tables.row_in_force(asset), holding).positions
+    }
+}
+
+pub fn order(account: usize, asset: usize, date: usize, side: i64, quantity: i64, money: i64) -> Order {
+    Order { account: account as i64, asset: asset as i64, date: date as i64, side, quantity, money }
+}

@@ -1,0 +1,33 @@
+//! The rules of document 01 in plain Rust, in the document's order: the second program that the engine is compared
+//! with, written from the document alone. Numbers are i64 as the document has them. Of a sound block under sound tables
+//! nothing on the way reaches 10^18, and every build stops at a sum or product that would wrap. Sums of unchecked
+//! numbers saturate, which leaves them past every bound, or are taken in 128 bits.
+
+#[macro_use]
+mod mutant;
+
+// Units and sizes.
+pub mod block;
+pub mod row;
+pub mod tables;
+pub mod units;
+
+// From collateral to limit.
+pub mod asset;
+pub mod collateral;
+pub mod cover;
+pub mod discount;
+pub mod interest;
+pub mod limit;
+pub mod market;
+pub mod valuation;
+
+// Calls and turning away; session lines.
+pub mod calls;
+pub mod frame;
+pub mod session;
+
+// What the comparison is made with.
+pub mod cases;
+pub mod coverage;
+pub mod generate;

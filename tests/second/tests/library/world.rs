@@ -1,0 +1,98 @@
+//! A book, tables and groups to call the library with, and the calls with their codes.
+
+use second::block::{Block, holding_start};
+use second::calls::{self, Move, Order, Refusal};
+use second::cases::{GROUP_ONE, row_a};
+use second::limit::Figures;
+use second::row::Row;
+use second::tables::Lent;
+use second::units::*;
+
+#[derive(Clone, PartialEq)]
+pub struct World {
+    pub book: Vec<i64>,
+    pub clearing: Vec<i64>,
+    pub own: Vec<i64>,
+    pub groups: Vec<i64>,
+}
+
+impl World {
+    /// An empty book; asset 0 has row A.
+    pub fn new() -> World {
+        let mut world =
+            World { book: vec![0; BOOK], clearing: vec![0; TABLE], own: vec![0; TABLE], groups: vec![0; GROUPS] };
+        world.groups[0] = GROUP_ONE;
+        world.list(0, &row_a());
+        world
+    }
+
+    pub fn list(&mut self, asset: usize, row: &Row) {
+        self.clearing[ROW * asset..ROW * (asset + 1)].copy_from_slice(row);
+    }
+
+    pub fn block(&mut self, account: usize) -> &mut Block {
+        &mut self.book.as_chunks_mut().0[account]
+    }
+
+    pub fn lent(&self) -> Lent<'_> {
+        Lent { clearing: &self.clearing, own: &self.own, groups: &self.groups }
+    }
+
+    pub fn check_tables(&self) -> (u8, usize) {
+        calls::check_tables(&self.lent())
+    }
+
+    pub fn report(&self, account: i64) -> Result<Figures, Refusal> {
+        calls::report(&self.book, &self.lent(), account)
+    }
+
+    /// The code of a call; where it is turned away the book must be as it was.
+    pub fn call(&mut self, call: Call) -> u8 {
+        let before = self.book.clone();
+        let lent = Lent { clearing: &self.clearing, own: &self.own, groups: &self.groups };
+        let answer = match call {
+            Call::Open(account, kind) => calls::open(&mut self.book, account, kind),
+            Call::Move(wanted) => calls::move_collateral(&mut self.book, &lent, &wanted),
+            Call::Order(wanted) => calls::order(&mut self.book, &lent, &wanted),
+            Call::Roll(account) => calls::roll(&mut self.book, account),
+            Call::Report(account) => calls::report(&self.book, &lent, account).map(|_| ()),
+        };
+        if answer.is_err() {
+            assert!(self.book == before, "a refusal altered the book");
+        }
+        calls::code(&answer)
+    }
+}
+
+#[derive(Clone, Copy)]
+pub enum Call {
+    Open(i64, i64),
+    Move(Move),
+    Order(Order),
+    Roll(i64),
+    Report(i64),
+}
+
+/// One of each call for an account, good in an account with rubles; open comes first.
+pub fn calls_of(account: i64) -> [Call; 5] {
+    [
+        Call::Open(account, 1),
+        Call::Move(Move { account, asset: 255, amount: 1 }),
+        Call::Order(Order { account, asset: 0, date: 0, side: 0, quantity: 1, money: 0 }),
+        Call::Roll(account),
+        Call::Report(account),
+    ]
+}
+
+/// Places in a block.
+pub fn collateral(asset: usize) -> usize {
+    holding_start(asset)
+}
+
+pub fn claim(asset: usize, date: usize) -> usize {
+    holding_start(asset) + 1 + date
+}
+
+pub fn obligation(asset: usize, date: usize) -> usize {
+    holding_start(asset) + 1 + DATES + date
+}
