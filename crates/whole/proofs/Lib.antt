@@ -11,3 +11,4 @@ pub mod Parts
 pub mod Tests
 pub mod Marks
 pub mod Refusals
+pub mod Tabulated

@@ -16,6 +16,9 @@ between low x high = leZ low x && leZ x high
 abbrev pub equal : ℤ → ℤ → Bool
 equal x y = between y x y
 
+abbrev pub isZero : ℤ → Bool
+isZero x = equal x (pos 0)
+
 -- an i64 from −k to k
 infix 50 _within_
 pub record _within_ (x : ℤ) (k : ℕ) : Type 0 where

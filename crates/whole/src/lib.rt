@@ -2,10 +2,12 @@ ghost use mathlib.Core.Path.{_≡_};
 ghost use Prim.Native.Nat.{_+_, _<_, _^_};
 ghost use lib.IntN.{pos, natAbs};
 ghost use lib.Signed.{_≤ℤ_};
+ghost use lib.ListN.{length};
 ghost use mir.Syntax.{w64};
 ghost use mir.Val.{SFits};
 ghost use Rattle.whole.specs.Numbers.{minℤ, maxℤ, absℤ, dividedDown, dividedUp};
 ghost use Rattle.whole.specs.Bounds.{between};
+ghost use Rattle.whole.specs.Parts.{number};
 
 // The arithmetic of i64 that the engine's code shares. Nothing here wraps: where an answer could leave the range, the caller
 // shows that it does not. A `requires` of this crate is met by its callers inside the engine.
@@ -15,6 +17,14 @@ pub fn lies_between(low: i64, x: i64, high: i64) -> bool
     ensures { λ r. ⌜ r ≡ between low x high ⌝ }
 {
     low <= x && x <= high
+}
+
+// Whether number k lies from low to high.
+pub fn number_between(numbers: &[i64], k: usize, low: i64, high: i64) -> bool
+    requires { ⌜ k < length (now numbers) ⌝ }
+    ensures { λ r. ⌜ r ≡ between low (number (now (numbers .entry)) k) high ⌝ }
+{
+    lies_between(low, numbers[k], high)
 }
 
 // The lesser of two numbers.

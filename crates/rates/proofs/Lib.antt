@@ -1,0 +1,12 @@
+-- Laws of a row's rules, of the tables, and of what the table check gives; and computed examples.
+pub mod Comparisons
+pub mod Marks
+pub mod Counts
+pub mod OwnRow
+pub mod Answer
+pub mod Ranges
+pub mod CoverTest
+pub mod Lookup
+pub mod Sound
+pub mod Examples
+pub mod Listed

@@ -1,0 +1,36 @@
+-- What the lookup hands back. Assumes nothing.
+use mathlib.Core.Path.{_≡_, refl, _∙_}
+use mathlib.Core.Bool.{true, false, _&&_}
+use mathlib.Core.List.{List, []}
+use Prim.Native.Nat.{ℕ, _<_}
+use lib.IntN.{ℤ}
+use lib.ListN.{length}
+use lib.Dec.{eqb, ltb}
+use borrow.Author.Tests.{lt-ltb}
+use Rattle.rates.specs.Units.{assets, tableLength}
+use Rattle.rates.specs.Tables.{rowOf, absent}
+use Rattle.rates.specs.InForce.{inForce, lookup}
+
+module _ (clearing own : List ℤ) (a : ℕ) where
+  pub no-row : eqb (length clearing) tableLength && (eqb (length own) tableLength && ltb a assets) ≡ false → [] ≡ lookup clearing own a
+  unfolding lookup
+  no-row e = rw e refl
+
+  pub from-own : absent (rowOf own a) ≡ false → inForce clearing own a ≡ rowOf own a
+  unfolding inForce
+  from-own e = rw e refl
+
+  pub from-clearing : absent (rowOf own a) ≡ true → inForce clearing own a ≡ rowOf clearing a
+  unfolding inForce
+  from-clearing e = rw e refl
+
+  module _ (lc : length clearing ≡ tableLength) (lo : length own ≡ tableLength) (h : a < assets) where
+    pub in-force : lookup clearing own a ≡ inForce clearing own a
+    unfolding lookup
+    in-force = rw (lc, lo, lt-ltb a assets h) refl
+
+    pub own-row : absent (rowOf own a) ≡ false → lookup clearing own a ≡ rowOf own a
+    own-row e = in-force ∙ from-own e
+
+    pub clearing-row : absent (rowOf own a) ≡ true → lookup clearing own a ≡ rowOf clearing a
+    clearing-row e = in-force ∙ from-clearing e

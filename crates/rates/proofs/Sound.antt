@@ -1,0 +1,118 @@
+-- What a caller learns from code 0 of the table check: the lengths; of each asset, that its row in force is in its ranges, has the kind of its clearing
+-- row, and is what the lookup hands back; of each group, that its percent is right.
+-- Assumes nothing.
+use mathlib.Core.Path.{_≡_, refl, ap, _∙_}
+use mathlib.Core.Bool.{Bool, true, false, cond}
+use mathlib.Core.List.{List, _∷_, _++_, map}
+use Prim.Native.Nat.{ℕ, _<_}
+use native.Mathlib.Omega.{arith}
+use lib.IntN.{ℤ, pos}
+use lib.ListN.{length, replicate}
+use lib.Dec.{eqb}
+use borrow.Author.Tests.{eqb-true}
+use Rattle.whole.specs.Parts.{number}
+use Rattle.whole.specs.Bounds.{between, _upto_}
+use Rattle.whole.specs.Marks.{allTrue, pieces}
+use Rattle.whole.proofs.Bounds.{equal-says, upto-by}
+use Rattle.whole.proofs.Tests.{and-left, and-right, true-not-false}
+use Rattle.whole.proofs.Marks.{all-left, all-right, all-piece, all-numbers}
+use Rattle.rates.specs.Units.{assets, rowLength, tableLength, groupCount}
+use Rattle.rates.specs.Row.{kind}
+use Rattle.rates.specs.Rules.{rowMarks}
+use Rattle.rates.specs.Tables.{rowOf, absent, ownKindRight, ownRowMarks, percentRight, clearingMarks, ownMarks, tableMarks, lengthsRight, soundTables, checkCode}
+use Rattle.rates.specs.InForce.{inForce, lookup, soundRow}
+use Rattle.rates.specs.Ranges.{RowRanges, TableRanges}
+use Rattle.rates.proofs.Counts.{row-long}
+use Rattle.rates.proofs.Answer.{code-0-says}
+use Rattle.rates.proofs.Ranges.{row-ranges}
+use Rattle.rates.proofs.Lookup.{from-own, from-clearing, in-force}
+
+-- ---- a present own row whose marks are true: it has the clearing row's kind, and keeps the rules of a row
+module _ (own clearing : List ℤ) (present : absent own ≡ false) (e : allTrue (ownRowMarks own clearing) ≡ true) where
+  own-right : (ownKindRight own clearing ≡ true) × (allTrue (rowMarks own) ≡ true)
+  unfolding ownRowMarks allTrue
+  own-right = by (ownKindRight own clearing) refl (rw present at e)
+    where
+      by : (b : Bool) → ownKindRight own clearing ≡ b
+          → allTrue (cond (ownKindRight own clearing) (rowMarks own) (false ∷ replicate 63 true)) ≡ true
+          → (ownKindRight own clearing ≡ true) × (allTrue (rowMarks own) ≡ true)
+      by true k m = (k, rw k at m)
+      by false k m = true-not-false (rw k at m)
+
+  own-kind : kind own ≡ kind clearing
+  unfolding ownKindRight
+  own-kind = equal-says (and-left _ _ (own-right .0))
+
+sound-row : (row : List ℤ) → length row ≡ rowLength → allTrue (rowMarks row) ≡ true → RowRanges row
+unfolding soundRow
+sound-row row long e = row-ranges row (rw (long, e) refl)
+
+module _ (clearing own groups : List ℤ) where
+  module _ (lengths : lengthsRight clearing own groups ≡ true) (sound : soundTables clearing own groups ≡ true) where
+    long-clearing : length clearing ≡ tableLength
+    unfolding lengthsRight
+    long-clearing = eqb-true (length clearing) tableLength (and-left _ _ lengths)
+
+    long-own : length own ≡ tableLength
+    unfolding lengthsRight
+    long-own = eqb-true (length own) tableLength (and-left _ _ (and-right (eqb (length clearing) tableLength) _ lengths))
+
+    long-groups : length groups ≡ groupCount
+    unfolding lengthsRight
+    long-groups = eqb-true (length groups) groupCount (and-right (eqb (length own) tableLength) _ (and-right (eqb (length clearing) tableLength) _ lengths))
+
+    past-clearing : allTrue (pieces (ownMarks clearing own) 0 assets ++ map percentRight groups) ≡ true
+    unfolding soundTables tableMarks
+    past-clearing = all-right (pieces (clearingMarks clearing) 0 assets) _ sound
+
+    clearing-right : (a : ℕ) → a < assets → allTrue (rowMarks (rowOf clearing a)) ≡ true
+    unfolding soundTables tableMarks clearingMarks
+    clearing-right a h =
+        all-piece (clearingMarks clearing) 0 assets a (omega arith) (omega arith)
+        (all-left _ (pieces (ownMarks clearing own) 0 assets ++ map percentRight groups) sound)
+
+    own-row-right : (a : ℕ) → a < assets → allTrue (ownRowMarks (rowOf own a) (rowOf clearing a)) ≡ true
+    unfolding ownMarks
+    own-row-right a h = all-piece (ownMarks clearing own) 0 assets a (omega arith) (omega arith) (all-left _ (map percentRight groups) past-clearing)
+
+    row-in-ranges : (a : ℕ) → a < assets → RowRanges (inForce clearing own a)
+    row-in-ranges a h = by (absent (rowOf own a)) refl
+      where
+        by : (b : Bool) → absent (rowOf own a) ≡ b → RowRanges (inForce clearing own a)
+        by true e = rw (from-clearing clearing own a e) (sound-row (rowOf clearing a) (row-long clearing long-clearing a h) (clearing-right a h))
+        by false e = rw (from-own clearing own a e)
+            (sound-row (rowOf own a) (row-long own long-own a h) (own-right (rowOf own a) (rowOf clearing a) e (own-row-right a h) .1))
+
+    row-kind : (a : ℕ) → a < assets → kind (inForce clearing own a) ≡ kind (rowOf clearing a)
+    row-kind a h = by (absent (rowOf own a)) refl
+      where
+        by : (b : Bool) → absent (rowOf own a) ≡ b → kind (inForce clearing own a) ≡ kind (rowOf clearing a)
+        by true e = ap kind (from-clearing clearing own a e)
+        by false e = ap kind (from-own clearing own a e) ∙ own-kind (rowOf own a) (rowOf clearing a) e (own-row-right a h)
+
+    percents : (g : ℕ) → number groups g upto 50
+    unfolding between
+    percents g = upto-by (omega arith) (all-numbers percentRight groups (pos 0) refl (all-right (pieces (ownMarks clearing own) 0 assets) _ past-clearing) g)
+
+    table-ranges : TableRanges clearing own groups
+    table-ranges =
+        record {
+          clearing-long = long-clearing;
+          own-long = long-own;
+          groups-long = long-groups;
+          row = row-in-ranges;
+          percent = λ g h. percents g;
+        }
+
+  module _ (passed : checkCode clearing own groups ≡ 0) where
+    lengths-sound : (lengthsRight clearing own groups ≡ true) × (soundTables clearing own groups ≡ true)
+    lengths-sound = code-0-says clearing own groups passed
+
+    pub ranges : TableRanges clearing own groups
+    ranges = table-ranges (lengths-sound .0) (lengths-sound .1)
+
+    pub same-kind : (a : ℕ) → a < assets → kind (inForce clearing own a) ≡ kind (rowOf clearing a)
+    same-kind = row-kind (lengths-sound .0) (lengths-sound .1)
+
+    pub looked-up : (a : ℕ) → a < assets → lookup clearing own a ≡ inForce clearing own a
+    looked-up a h = in-force clearing own a (ranges .clearing-long) (ranges .own-long) h

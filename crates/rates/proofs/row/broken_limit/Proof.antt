@@ -1,0 +1,72 @@
+-- `rates::row::broken_limit` meets its contract: the place of the test that failed, all before it having passed.
+-- Assumes nothing.
+use borrow.Author.Needs.{needs}
+use Rattle.rates.specs.Rules.{limitMarks}
+use Rattle.whole.proofs.Tests.{tests}
+use Rattle.whole.proofs.Marks.{none, yes, no, first}
+use Rattle.rates.proofs.row.broken_limit.Statement.{statement}
+use Rattle.rates.proofs.row.broken_limit.Tie as tie
+
+number-between-requires : tie.Need-number-between-requires
+number-between-requires c κs = search needs
+
+returns : tie.Need-returns
+unfolding limitMarks
+returns c = first (no (search tests))
+
+number-between-requires-2 : tie.Need-number-between-requires-2
+number-between-requires-2 c κs = search needs
+
+returns-2 : tie.Need-returns-2
+unfolding limitMarks
+returns-2 c = first (yes (search tests) (no (search tests)))
+
+number-between-requires-3 : tie.Need-number-between-requires-3
+number-between-requires-3 c κs = search needs
+
+returns-3 : tie.Need-returns-3
+unfolding limitMarks
+returns-3 c = first (yes (search tests) (yes (search tests) (no (search tests))))
+
+number-between-requires-4 : tie.Need-number-between-requires-4
+number-between-requires-4 c κs = search needs
+
+returns-4 : tie.Need-returns-4
+unfolding limitMarks
+returns-4 c = first (yes (search tests) (yes (search tests) (yes (search tests) (no (search tests)))))
+
+number-between-requires-5 : tie.Need-number-between-requires-5
+number-between-requires-5 c κs = search needs
+
+returns-5 : tie.Need-returns-5
+unfolding limitMarks
+returns-5 c = first (yes (search tests) (yes (search tests) (yes (search tests) (yes (search tests) (no (search tests))))))
+
+number-between-requires-6 : tie.Need-number-between-requires-6
+number-between-requires-6 c κs = search needs
+
+returns-6 : tie.Need-returns-6
+unfolding limitMarks
+returns-6 c = first (yes (search tests) (yes (search tests) (yes (search tests) (yes (search tests) (yes (search tests) (no (search tests)))))))
+
+returns-7 : tie.Need-returns-7
+unfolding limitMarks
+returns-7 c = first (yes (search tests) (yes (search tests) (yes (search tests) (yes (search tests) (yes (search tests) (yes (search tests) none))))))
+
+pub broken-limit-spec : {M : Type 1} → statement M
+broken-limit-spec =
+    tie.close
+    (tie.spec
+    number-between-requires
+    returns
+    number-between-requires-2
+    returns-2
+    number-between-requires-3
+    returns-3
+    number-between-requires-4
+    returns-4
+    number-between-requires-5
+    returns-5
+    number-between-requires-6
+    returns-6
+    returns-7)

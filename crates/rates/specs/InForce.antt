@@ -1,0 +1,36 @@
+-- Document 01, "The row in force" and "Cover test". Assumes nothing.
+use mathlib.Core.Bool.{Bool, not, cond, _&&_}
+use mathlib.Core.List.{List, []}
+use Prim.Native.Nat.{ℕ}
+use lib.IntN.{ℤ, pos, _-ℤ_, _*ℤ_}
+use lib.Signed.{leZ}
+use lib.ListN.{length}
+use lib.Dec.{eqb, ltb}
+use Rattle.whole.specs.Numbers.{maxℤ}
+use Rattle.whole.specs.Marks.{allTrue}
+use Rattle.rates.specs.Units.{assets, rowLength, tableLength, theWhole}
+use Rattle.rates.specs.Row.{unlisted, price, fall, raisedRate, mid, outerLow, outerUp, level}
+use Rattle.rates.specs.Rules.{rowMarks}
+use Rattle.rates.specs.Tables.{rowOf, absent}
+
+-- the own row where present, else the clearing row
+unfoldable pub inForce : List ℤ → List ℤ → ℕ → List ℤ
+inForce clearing own a = cond (absent (rowOf own a)) (rowOf clearing a) (rowOf own a)
+
+-- what the lookup hands back: the row in force; no numbers where a table has another length or there is no such asset
+unfoldable pub lookup : List ℤ → List ℤ → ℕ → List ℤ
+lookup clearing own a =
+    cond (eqb (length clearing) tableLength && (eqb (length own) tableLength && ltb a assets)) (inForce clearing own a) []
+
+-- the greater distance of date d's outer numbers from its mid
+unfoldable pub outerWidth : List ℤ → ℕ → ℤ
+outerWidth row d = maxℤ (mid row d -ℤ outerLow row d) (outerUp row d -ℤ mid row d)
+
+-- the cover test: 10,000 × (price + mid of date 0 − w) ≥ raised fall × price; an unlisted row fails it
+unfoldable pub coverTest : List ℤ → Bool
+coverTest row =
+    not (unlisted row) && leZ (raisedRate row fall *ℤ price row) (theWhole *ℤ (level row 0 -ℤ outerWidth row 0))
+
+-- a row of 64 numbers of which none breaks its rule
+unfoldable pub soundRow : List ℤ → Bool
+soundRow row = eqb (length row) rowLength && allTrue (rowMarks row)

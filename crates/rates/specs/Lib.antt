@@ -1,0 +1,7 @@
+-- What the contracts of `rates` cite: a row's numbers by name, its rules, the tables, the row in force, the cover test, and what the check gives.
+pub mod Units
+pub mod Row
+pub mod Rules
+pub mod Tables
+pub mod InForce
+pub mod Ranges

@@ -1,0 +1,66 @@
+-- Document 01, "Row": the rules of a row as one list of marks, a mark for each of its 64 numbers by rising number, literal over ℤ. A rule over
+-- two numbers stands at the later one. The first false mark is the first broken number.
+-- Assumes nothing.
+use mathlib.Core.Bool.{Bool, not, cond, _&&_, _||_}
+use mathlib.Core.List.{List, [], _∷_, _++_, map}
+use Prim.Native.Nat.{ℕ, _+_, _*_, _-_}
+use lib.IntN.{ℤ, pos, _+ℤ_, _-ℤ_}
+use lib.ListN.{drop}
+use Rattle.whole.specs.Bounds.{between, equal, isZero}
+use Rattle.whole.specs.Parts.{number}
+use Rattle.whole.specs.Marks.{pieces}
+use Rattle.rates.specs.Units.{theWhole, tenMillion, dates}
+use Rattle.rates.specs.Row.{kind, unlisted, price, acceptanceShare, poolShare, coveredSales, specialDelivery, fall, rise, baseRate, raisedRate, marketLimit, interestLimit, spreadGroup, mid, low, up, outerLow, outerUp, level}
+
+-- a commodity has equal rates for fall and rise: number k equals the number before it
+abbrev pub equalForCommodity : List ℤ → ℕ → Bool
+equalForCommodity row k = not (equal (kind row) (pos 3)) || equal (number row k) (number row (k - 1))
+
+-- numbers 0 to 5
+unfoldable pub termMarks : List ℤ → List Bool
+termMarks row =
+    between (pos 1) (kind row) (pos 3)
+    ∷ between (pos 1) (price row) tenMillion
+    ∷ between (pos 0) (acceptanceShare row) theWhole
+    ∷ between (pos 0) (poolShare row) theWhole
+    ∷ between (pos 0) (coveredSales row) (pos 2)
+    ∷ between (pos 0) (specialDelivery row) (pos 1)
+    ∷ []
+
+-- numbers 6 to 9
+unfoldable pub rateMarks : List ℤ → List Bool
+rateMarks row =
+    between (pos 0) (baseRate row fall) theWhole
+    ∷ (between (pos 0) (baseRate row rise) theWhole && equalForCommodity row 7)
+    ∷ between (baseRate row fall) (raisedRate row fall) theWhole
+    ∷ (between (baseRate row rise) (raisedRate row rise) theWhole && equalForCommodity row 9)
+    ∷ []
+
+-- numbers 10 to 15
+unfoldable pub limitMarks : List ℤ → List Bool
+limitMarks row =
+    between (pos 0) (marketLimit row) tenMillion
+    ∷ between (pos 0) (interestLimit row) tenMillion
+    ∷ between (pos 0) (spreadGroup row) (pos 8)
+    ∷ isZero (number row 13)
+    ∷ isZero (number row 14)
+    ∷ isZero (number row 15)
+    ∷ []
+
+-- numbers 16 + 5d to 20 + 5d
+unfoldable pub dateMarks : List ℤ → ℕ → List Bool
+dateMarks row d =
+    between (pos 0) (level row d) tenMillion
+    ∷ between (mid row d -ℤ tenMillion) (low row d) (mid row d)
+    ∷ between (mid row d) (up row d) (mid row d +ℤ tenMillion)
+    ∷ between (mid row d -ℤ tenMillion) (outerLow row d) (low row d)
+    ∷ between (up row d) (outerUp row d) (mid row d +ℤ tenMillion)
+    ∷ []
+
+-- a listed row, number by number; 56 to 63 are zero
+unfoldable pub listedMarks : List ℤ → List Bool
+listedMarks row = termMarks row ++ (rateMarks row ++ (limitMarks row ++ (pieces (dateMarks row) 0 dates ++ map isZero (drop 56 row))))
+
+-- any row: an unlisted one is all zero
+unfoldable pub rowMarks : List ℤ → List Bool
+rowMarks row = cond (unlisted row) (map isZero row) (listedMarks row)
