@@ -15,7 +15,9 @@ use crate::row::TEN_MILLION;
 // first; so price + mid is never taken of a mid that could make it wrap, and the others are measured from a mid within 10^7 of 0.
 
 const DATES_AT: usize = 16;
+
 const DATE: usize = 5;
+
 const DATES: usize = 8;
 
 // Whether price + mid of date d lies from 0 to 10^7, asked of the mid.

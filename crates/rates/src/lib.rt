@@ -32,7 +32,10 @@ pub fn check_tables(clearing: &[i64], own: &[i64], groups: &[i64]) -> Checked
     }
     let place = tables::broken_place(clearing, own, groups);
     if place < tables::PLACES {
-        return Checked { code: 2, place: place };
+        return Checked {
+            code: 2,
+            place: place,
+        };
     }
     Checked { code: 0, place: 0 }
 }

@@ -13,7 +13,9 @@ use crate::dates;
 // count where none is broken. Every comparison is made on numbers that earlier ones have bounded, so nothing overflows.
 
 pub(crate) const WHOLE: i64 = 10000;
+
 pub(crate) const TEN_MILLION: i64 = 10000000;
+
 pub(crate) const LENGTH: usize = 64;
 
 // Where the last numbers of a row stand, which are zero.

@@ -9,10 +9,15 @@ use crate::row;
 // broken number.
 
 pub(crate) const TABLE_LENGTH: usize = 1024;
+
 pub(crate) const ASSETS: usize = 16;
+
 pub(crate) const GROUPS: usize = 8;
+
 pub(crate) const PLACES: usize = 2056;
+
 const OWN_AT: usize = 1024;
+
 const GROUPS_AT: usize = 2048;
 
 // Whether the clearing row is listed and the own row has its kind.

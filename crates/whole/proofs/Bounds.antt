@@ -13,7 +13,7 @@ use mir.Facts.{toZ-ofZ}
 use Rattle.whole.specs.Bounds.{between, equal, _within_, _upto_}
 use Rattle.whole.proofs.PlusMinus.{abs-is, one-is-zero}
 use Rattle.whole.proofs.Expressions.{var}
-use Rattle.whole.proofs.Machine.{back, fits!}
+use Rattle.whole.proofs.Machine.{back, fits! }
 use Rattle.whole.proofs.Numbers.{≤ℤ-antisym, abs-mul}
 use Rattle.whole.proofs.Rules.{ints}
 
@@ -65,6 +65,7 @@ between-same low x high low′ x′ high′ a b c d =
     same true false f g = absurd (f tt)
     same false true f g = absurd (g tt)
     same false false f g = refl
+
     and-same : {s t s′ t′ : Bool} → s ≡ s′ → t ≡ t′ → s && t ≡ s′ && t′
     and-same e f = rw (e, f) refl
 

@@ -47,7 +47,7 @@ module _ {A : Type 0} (d : A) (a n : ℕ) (xs ys : List A) (fits : a + n ≤ len
       subst (λ (k : ℕ). getD (take a xs ++ (ys ++ drop n (drop a xs))) (k + (n + i)) d ≡ getD xs (a + (n + i)) d) head-length
       (getD-append-add (take a xs) _ (n + i) d
       ∙ subst (λ (k : ℕ). getD (ys ++ drop n (drop a xs)) (k + i) d ≡ getD xs (a + (n + i)) d) long
-        (getD-append-add ys _ i d ∙ getD-drop n (drop a xs) i d ∙ getD-drop a xs (n + i) d))
+      (getD-append-add ys _ i d ∙ getD-drop n (drop a xs) i d ∙ getD-drop a xs (n + i) d))
 
   pub put-after : (i : ℕ) → a + n ≤ i → getD (put a n xs ys) i d ≡ getD xs i d
   put-after i h =
@@ -66,8 +66,8 @@ module _ {A : Type 0} (d : A) (a n : ℕ) (xs ys : List A) (fits : a + n ≤ len
       let h : length (part b m (put a n xs ys)) ≡ m = part-length d b m (put a n xs ys) (omega (arith, put-length)) in
       ext-getD d _ _ (h ∙ sym (part-length d b m xs hb))
       (λ i l. part-at d b m (put a n xs ys) i (omega arith)
-        ∙ ⊎-elim {C = getD (put a n xs ys) (b + i) d ≡ getD xs (b + i) d} (λ q. put-before (b + i) (omega arith)) (λ q. put-after (b + i) (omega arith)) apart
-        ∙ sym (part-at d b m xs i (omega arith)))
+      ∙ ⊎-elim {C = getD (put a n xs ys) (b + i) d ≡ getD xs (b + i) d} (λ q. put-before (b + i) (omega arith)) (λ q. put-after (b + i) (omega arith)) apart
+      ∙ sym (part-at d b m xs i (omega arith)))
 
 -- the same part put back changes nothing
 pub put-part : {A : Type 0} (d : A) (a n : ℕ) (xs : List A) → a + n ≤ length xs → put a n xs (part a n xs) ≡ xs
@@ -75,11 +75,11 @@ put-part d a n xs fits =
     let long : length (part a n xs) ≡ n = part-length d a n xs fits in
     ext-getD d _ _ (put-length d a n xs (part a n xs) fits long)
     (λ i l. ⊎-elim
-      (λ h. put-before d a n xs (part a n xs) fits long i h)
-      (λ h. ⊎-elim
-        (λ k. let e : a + (i - a) ≡ i = omega arith in
-          subst (λ (j : ℕ). getD (put a n xs (part a n xs)) j d ≡ getD xs j d) e
-          (put-in d a n xs (part a n xs) fits long (i - a) (omega arith) ∙ part-at d a n xs (i - a) (omega arith)))
-        (λ k. put-after d a n xs (part a n xs) fits long i k)
-        (lt-or-ge i (a + n)))
-      (lt-or-ge i a))
+    (λ h. put-before d a n xs (part a n xs) fits long i h)
+    (λ h. ⊎-elim
+    (λ k. let e : a + (i - a) ≡ i = omega arith in
+    subst (λ (j : ℕ). getD (put a n xs (part a n xs)) j d ≡ getD xs j d) e
+    (put-in d a n xs (part a n xs) fits long (i - a) (omega arith) ∙ part-at d a n xs (i - a) (omega arith)))
+    (λ k. put-after d a n xs (part a n xs) fits long i k)
+    (lt-or-ge i (a + n)))
+    (lt-or-ge i a))

@@ -52,6 +52,7 @@ sum-one (suc n) a f g l h =
     last : a ≡ n → Σ< n g +ℤ g n +ℤ f a ≡ Σ< n f +ℤ f n +ℤ g a
     last e = let i = sum-same n g f (λ j q. h j (omega arith) (λ (d : j ≡ a). absurd (omega arith))) in let ef = ap f e in let eg = ap g e in
         eq! (var (Σ< n g) ⊕ var (g n) ⊕ var (f a)) (var (Σ< n f) ⊕ var (f n) ⊕ var (g a)) (omega ints)
+
     before : a < n → Σ< n g +ℤ f a ≡ Σ< n f +ℤ g a → Σ< n g +ℤ g n +ℤ f a ≡ Σ< n f +ℤ f n +ℤ g a
     before k i = let q = h n (omega arith) (λ (e : n ≡ a). absurd (omega arith)) in
         eq! (var (Σ< n g) ⊕ var (g n) ⊕ var (f a)) (var (Σ< n f) ⊕ var (f n) ⊕ var (g a))

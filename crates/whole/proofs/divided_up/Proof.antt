@@ -4,7 +4,7 @@ use lib.IntN.{ℤ, pos, natAbs, _+ℤ_, _-ℤ_}
 use mir.Facts.{toZ-ofZ}
 use Rattle.whole.specs.Numbers.{dividedDown}
 use Rattle.whole.proofs.PlusMinus.{abs-is}
-use Rattle.whole.proofs.Expressions.{Expression, var, lit, _⊕_, _⊖_, le!}
+use Rattle.whole.proofs.Expressions.{Expression, var, lit, _⊕_, _⊖_, le! }
 use Rattle.whole.proofs.Machine.{Runs, need!, runs, fits-back}
 use Rattle.whole.proofs.Rounding.{down-up}
 use Rattle.whole.proofs.Rules.{ints}
@@ -30,9 +30,10 @@ divided-down-requires c κs = rw (runs (raised c) (ok c), toZ-ofZ (c .fits .by))
 returns : tie.Need-returns
 returns c =
     let s = c .before in
-    let r = c .divided-down .ensures in
-    (toZ-ofZ (r .1) ∙ r .0 ∙ ap₂ (λ (z y : ℤ). dividedDown z (natAbs y)) (runs (raised s) (ok s)) (toZ-ofZ (s .fits .by)) ∙ down-up (s .args .x) (s .args .by) (s .pre .0) (s .pre .1),
-      fits-back (r .1))
+    let r = c .divided-down .ensures in (
+      toZ-ofZ (r .1) ∙ r .0 ∙ ap₂ (λ (z y : ℤ). dividedDown z (natAbs y)) (runs (raised s) (ok s)) (toZ-ofZ (s .fits .by)) ∙ down-up (s .args .x) (s .args .by) (s .pre .0) (s .pre .1),
+      fits-back (r .1),
+    )
 
 pub divided-up-spec : {M : Type 1} → statement M
 divided-up-spec =
