@@ -10,12 +10,11 @@ use lib.ListN.{length, getD}
 use borrow.Author.Tests.{not-false}
 use Rattle.whole.specs.Marks.{firstFalse}
 use Rattle.whole.specs.Refusals.{_gives_, firstCode}
-use Rattle.whole.proofs.Marks.{true-before, false-at, all-of, not-all-of}
+use Rattle.whole.proofs.Marks.{true-before, false-at, all-of, not-all-of, some-false}
 use Rattle.whole.proofs.Refusals.{none-holds}
 use Rattle.rates.specs.Units.{tableLength, groupCount}
 use Rattle.rates.specs.Tables.{tableMarks, lengthsRight, soundTables, checkCode, checkPlace, checked}
 use Rattle.rates.specs.declared.Checked.{Checked}
-use Rattle.rates.proofs.Marks.{some-false}
 use Rattle.rates.proofs.Counts.{table-count}
 
 -- the mark at the place is false, and each before it is true

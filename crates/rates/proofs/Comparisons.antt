@@ -7,15 +7,12 @@ use lib.IntN.{ℤ, pos, negsuc, _+ℤ_, _-ℤ_}
 use mir.Syntax.{w64}
 use mir.Val.{SFits}
 use mir.Facts.{toZ-ofZ}
-use Rattle.whole.specs.Bounds.{between, equal}
+use Rattle.whole.specs.Bounds.{between}
 use Rattle.whole.proofs.Expressions.{var, lit, _⊕_, _⊖_, le!, le?}
 use Rattle.whole.proofs.Machine.{back, fits! }
 use Rattle.whole.proofs.Bounds.{amid, between-yes, between-same, between-back}
 use Rattle.whole.proofs.Rules.{ints}
 use Rattle.rates.specs.Units.{tenMillion}
-
-pub equal-back : (x : ℤ) {y : ℤ} → SFits w64 y → equal x (back y) ≡ equal x y
-equal-back x f = ap (λ (z : ℤ). equal x z) (toZ-ofZ f)
 
 -- the level, price + mid, asked of the mid
 module _ (price : ℤ) (right : between (pos 1) price tenMillion ≡ true) where

@@ -1,14 +1,14 @@
 -- Laws of listed assets, and of the kind of a row in its table. Assumes nothing.
-use mathlib.Core.Path.{_≡_, refl, sym, ap, _∙_}
-use mathlib.Core.Bool.{Bool, true, false, not, _&&_}
+use mathlib.Core.Path.{_≡_, refl, ap, _∙_}
+use mathlib.Core.Bool.{false, not}
 use mathlib.Core.List.{List}
-use Prim.Native.Nat.{ℕ, _+_, _*_, _≤_, _<_}
+use Prim.Native.Nat.{ℕ, _*_, _≤_, _<_}
 use native.Mathlib.Nat.{add-zero}
 use native.Mathlib.Omega.{arith}
 use lib.ListN.{length, List·getD-eq-default}
 use lib.IntN.{ℤ, pos}
 use borrow.Author.Tests.{lt-ltb, le-ltb}
-use Rattle.whole.specs.Bounds.{between, equal}
+use Rattle.whole.specs.Bounds.{between}
 use Rattle.whole.specs.Parts.{number}
 use Rattle.whole.proofs.Parts.{part-at}
 use Rattle.rates.specs.Row.{kind}

@@ -10,7 +10,7 @@ use lib.Dec.{eqb, ltb}
 use Rattle.whole.specs.Bounds.{between, equal, isZero}
 use Rattle.whole.specs.Parts.{part}
 use Rattle.whole.specs.Marks.{firstFalse, allTrue, pieces}
-use Rattle.whole.specs.Refusals.{Refusal, _gives_, firstCode}
+use Rattle.whole.specs.Refusals.{_gives_, firstCode}
 use Rattle.rates.specs.Units.{assets, rowLength, tableLength, groupCount}
 use Rattle.rates.specs.Row.{kind, unlisted}
 use Rattle.rates.specs.Rules.{rowMarks}

@@ -1,6 +1,5 @@
 ghost use mathlib.Core.Path.{_≡_};
 ghost use Rattle.whole.specs.Bounds.{_upto_};
-ghost use Rattle.rates.specs.Row.{level};
 ghost use Rattle.rates.specs.InForce.{outerWidth, coverTest};
 ghost use Rattle.rates.specs.Ranges.{RowRanges};
 use crate::row;

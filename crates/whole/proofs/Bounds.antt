@@ -1,11 +1,11 @@
 -- Laws of the bounds, and what the test `between` says. Assumes nothing.
-use mathlib.Core.Path.{_≡_, refl, sym, subst}
+use mathlib.Core.Path.{_≡_, refl, sym, ap, subst}
 use mathlib.Core.Bool.{Bool, true, false, _&&_}
 use Prim.Native.Nat.{ℕ, _*_, _≤_, _<_, _^_}
 use native.Mathlib.Omega.{arith}
 use lib.Dec.{T}
 use lib.IntN.{ℤ, pos, natAbs, _*ℤ_}
-use lib.Signed.{leZ, _≤ℤ_, _<ℤ_}
+use lib.Signed.{leZ, _≤ℤ_}
 use native.Mathlib.Nat.{mul-le-mul}
 use mir.Syntax.{w64}
 use mir.Val.{SFits}
@@ -78,3 +78,6 @@ upto-by {x} {k} l e = let a = amid e in record { low = a .from; high = a .to; fi
 -- three numbers that fit, read back
 pub between-back : {low x high : ℤ} → SFits w64 low → SFits w64 x → SFits w64 high → between (back low) (back x) (back high) ≡ between low x high
 between-back f g h = simp (toZ-ofZ f, toZ-ofZ g, toZ-ofZ h)
+
+pub equal-back : (x : ℤ) {y : ℤ} → SFits w64 y → equal x (back y) ≡ equal x y
+equal-back x f = ap (λ (z : ℤ). equal x z) (toZ-ofZ f)

@@ -1,11 +1,11 @@
 -- Expressions over ℤ with their value and, beside it, two natural numbers whose difference it is: what `omega` reads. A fact about a
 -- nested term is proved by naming the two expressions: `le! (var x ⊕ var y) (var z) (omega ints)`; products are multiplied out.
 -- Assumes nothing.
-use mathlib.Core.Path.{_≡_, refl, sym, ap, ap₂, _∙_}
+use mathlib.Core.Path.{_≡_, refl, sym, ap, _∙_}
 use Prim.Native.Nat.{ℕ, zero, suc, _+_, _*_, _-_, _/_, _<_, _≤_, min, max}
 use native.Mathlib.Nat.{zero-div, div-eq-of-lt}
 use native.Mathlib.Omega.{arith}
-use lib.IntN.{ℤ, pos, negsuc, negℤ, natAbs, _+ℤ_, _-ℤ_, _*ℤ_}
+use lib.IntN.{ℤ, pos, negsuc, negℤ, _+ℤ_, _-ℤ_, _*ℤ_}
 use lib.Signed.{leZ, _≤ℤ_, _<ℤ_}
 use Rattle.whole.specs.Numbers.{minℤ, maxℤ, absℤ, dividedDown, dividedUp, ceiling}
 use Rattle.whole.proofs.PlusMinus.{plus, minus, le-says, le-by, lt-says, lt-by, not-le-says, eq-says, eq-by, either-way, add-is, neg-is, sub-is, neg-plus, neg-minus, abs-is, one-is-zero}

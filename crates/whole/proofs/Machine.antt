@@ -2,7 +2,7 @@
 -- that is z where z fits. `need! e ok` answers that an operation does not overflow, `runs e ok` that straight code computes its expression.
 -- Assumes nothing.
 use mathlib.Core.Path.{_≡_, refl, sym, ap, ap₂, _∙_, subst}
-use Prim.Native.Nat.{ℕ, suc, _+_, _-_, _<_, _≤_, _^_}
+use Prim.Native.Nat.{_+_, _-_, _<_, _≤_, _^_}
 use native.Mathlib.Omega.{arith}
 use lib.Dec.{T}
 use lib.IntN.{ℤ, pos, negsuc, negℤ, natAbs, _+ℤ_, _-ℤ_, _*ℤ_}
@@ -10,7 +10,7 @@ use lib.Signed.{mag, nonNeg}
 use mir.Syntax.{w64}
 use mir.Val.{Fits, SFits, toZ, ofZ}
 use mir.Facts.{toZ-ofZ}
-use Rattle.whole.proofs.PlusMinus.{plus, minus, one-is-zero, abs-is, eq-by}
+use Rattle.whole.proofs.PlusMinus.{plus, minus, one-is-zero, abs-is}
 use Rattle.whole.proofs.Expressions.{Expression, var, lit, neg, size, _⊕_, _⊖_, _⊛_, _⊓_, _⊔_, _÷↓_, _÷↑_, value, split, is}
 
 -- a number as it is read back from its bits

@@ -2,7 +2,7 @@
 -- numbers and over pieces, and what follows where all are true.
 -- Assumes nothing.
 use mathlib.Core.Path.{_≡_, refl, sym, ap, _∙_, subst}
-use mathlib.Core.Bool.{Bool, true, false, _&&_}
+use mathlib.Core.Bool.{Bool, true, false}
 use mathlib.Core.List.{List, [], _∷_, _++_, map}
 use mathlib.Core.Logic.{⊎-elim}
 use Prim.Native.Nat.{ℕ, zero, suc, _+_, _*_, _-_, _≤_, _<_}
@@ -58,6 +58,14 @@ unfolding firstFalse
 first-past [] b h = omega arith
 first-past (true ∷ a) b h = ap suc (first-past a b (omega arith)) ∙ omega arith
 first-past (false ∷ a) b h = absurd (omega arith)
+
+-- ---- as code finds the first false mark of two lists, one after the other: the first stops the search, or is passed with its count
+module _ (a b : List Bool) (n r : ℕ) (long : length a ≡ n) (e : r ≡ firstFalse a) where
+  pub stops-in : r < n → r ≡ firstFalse (a ++ b)
+  stops-in h = e ∙ sym (first-in a b (omega arith))
+
+  pub goes-past : n ≤ r → (s : ℕ) → s ≡ firstFalse b → n + s ≡ firstFalse (a ++ b)
+  goes-past h s f = omega (arith, first-past a b (omega arith))
 
 pub pieces-length : (f : ℕ → List Bool) (size i n : ℕ) → ((d : ℕ) → d < i + n → length (f d) ≡ size) → length (pieces f i n) ≡ size * n
 unfolding pieces
@@ -116,6 +124,12 @@ unfolding firstFalse allTrue
 not-all-of [] h = absurd (omega arith)
 not-all-of (true ∷ ms) h = not-all-of ms (omega arith)
 not-all-of (false ∷ ms) h = refl
+
+pub some-false : (ms : List Bool) → allTrue ms ≡ false → firstFalse ms < length ms
+unfolding firstFalse allTrue
+some-false [] e = true-not-false (sym e)
+some-false (true ∷ ms) e = let h = some-false ms e in omega arith
+some-false (false ∷ ms) e = omega arith
 
 pub all-at : (ms : List Bool) → allTrue ms ≡ true → (k : ℕ) → getD ms k true ≡ true
 unfolding allTrue

@@ -1,16 +1,16 @@
 -- Laws of ℤ that the library lacks: the ring, the order, lesser and greater, the size, products of bounded numbers, and a loop's cast.
 -- Assumes nothing.
-use mathlib.Core.Path.{_≡_, refl, sym, subst}
+use mathlib.Core.Path.{_≡_, refl}
 use mathlib.Core.Logic.{_⊎_, inl, inr, ⊎-elim}
-use Prim.Native.Nat.{ℕ, zero, suc, _+_, _*_, _-_, _<_, _≤_, _^_}
-use native.Mathlib.Nat.{mul-le-mul-left, mul-le-mul-right, mul-le-mul}
+use Prim.Native.Nat.{ℕ, zero, suc, _+_, _*_, _-_, _<_, _≤_}
+use native.Mathlib.Nat.{mul-le-mul-left}
 use native.Mathlib.Decide.{decLt}
 use native.Mathlib.Omega.{arith}
 use lib.IntN.{ℤ, pos, negsuc, negℤ, natAbs, _+ℤ_, _-ℤ_, _*ℤ_, *ℤ-comm}
 use lib.Signed.{_≤ℤ_, _<ℤ_}
 use Rattle.whole.specs.Numbers.{minℤ, maxℤ, absℤ}
-use Rattle.whole.proofs.PlusMinus.{plus, minus, le-says, le-by, lt-by, abs-is, one-is-zero, neg-minus}
-use Rattle.whole.proofs.Expressions.{var, lit, neg, size, _⊕_, _⊖_, _⊛_, _⊓_, _⊔_, is, le!, eq!, le?}
+use Rattle.whole.proofs.PlusMinus.{plus, minus, le-says, le-by, lt-by, abs-is, one-is-zero}
+use Rattle.whole.proofs.Expressions.{var, lit, size, _⊕_, _⊖_, _⊛_, _⊓_, _⊔_, is, le!, eq!, le?}
 use Rattle.whole.proofs.Rules.{ints}
 
 -- ---- the ring

@@ -1,11 +1,11 @@
 -- Laws of parts of a list, over any list, place and size. Assumes nothing.
-use mathlib.Core.Path.{_≡_, refl, sym, ap, _∙_, subst}
+use mathlib.Core.Path.{_≡_, sym, ap, _∙_, subst}
 use mathlib.Core.Logic.{_⊎_, ⊎-elim}
 use mathlib.Core.List.{List, _++_}
 use Prim.Native.Nat.{ℕ, _+_, _-_, _≤_, _<_}
 use native.Mathlib.Omega.{arith}
 use lib.ListN.{length, take, drop, getD, length-append, length-take, length-drop, List·getD-append}
-use lib.Seq.{length-take-le, getD-take, getD-drop, getD-append-add, ext-getD}
+use lib.Seq.{length-take-le, getD-take, getD-drop, getD-append-add, ext-getD, take-all}
 use Rattle.whole.specs.Parts.{part, put}
 use Rattle.whole.proofs.Numbers.{lt-or-ge}
 
@@ -13,6 +13,10 @@ use Rattle.whole.proofs.Numbers.{lt-or-ge}
 pub cut : {A : Type 0} (a n : ℕ) (xs : List A) → take (a + n - a) (drop a xs) ≡ part a n xs
 unfolding part
 cut a n xs = ap (λ (k : ℕ). take k (drop a xs)) (let e : a + n - a ≡ n = omega arith in e)
+
+-- and a part to the end, `&xs[a..]`
+pub to-end : {A : Type 0} (a : ℕ) (xs : List A) → take (length xs - a) (drop a xs) ≡ drop a xs
+to-end a xs = take-all (length xs - a) (drop a xs) (omega (arith, length-drop a xs))
 
 module _ {A : Type 0} (d : A) (a n : ℕ) (xs : List A) where
   pub part-at : (i : ℕ) → i < n → getD (part a n xs) i d ≡ getD xs (a + i) d

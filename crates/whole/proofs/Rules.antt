@@ -2,19 +2,19 @@
 -- them `omega ints` proves a linear fact over ℤ outright. `omega` applies the first rule that fits, so special ones stand before general.
 -- Assumes nothing.
 use mathlib.Core.Path.{_≡_, sym, subst}
-use mathlib.Core.Bool.{Bool, true, false, not, _&&_}
+use mathlib.Core.Bool.{Bool, true, false, not}
 use Prim.Native.Nat.{ℕ, suc, _+_, _*_, _-_, _/_, _<_, _≤_, _^_, min, max}
 use native.Mathlib.Omega.{arith}
 use lib.Dec.{T}
-use lib.IntN.{ℤ, pos, negsuc, negℤ, natAbs, _+ℤ_, _-ℤ_, _*ℤ_}
-use lib.Signed.{leZ, ltZ, _≤ℤ_, _<ℤ_, ltZ-no}
+use lib.IntN.{ℤ, pos, negsuc, negℤ, _+ℤ_, _-ℤ_, _*ℤ_}
+use lib.Signed.{leZ, ltZ, ltZ-no}
 use mir.Syntax.{w64}
 use mir.Val.{SFits}
 use mir.Facts.{toZ-ofZ}
 use Rattle.whole.specs.Numbers.{minℤ, maxℤ, absℤ, dividedDown, dividedUp, ceiling}
-use Rattle.whole.specs.Bounds.{between, _within_, _upto_}
+use Rattle.whole.specs.Bounds.{_within_, _upto_}
 use Rattle.whole.proofs.PlusMinus.{plus, minus, le-says, le-by, lt-says, lt-by, not-le-says, eq-says, eq-by, abs-is, one-is-zero}
-use Rattle.whole.proofs.Expressions.{Expression, var, lit, neg, size, _⊕_, _⊖_, _⊛_, _⊓_, _⊔_, _÷↓_, _÷↑_, value, split, is, eq?}
+use Rattle.whole.proofs.Expressions.{var, lit, neg, size, _⊕_, _⊖_, _⊛_, _⊓_, _⊔_, _÷↓_, _÷↑_, eq?}
 use Rattle.whole.proofs.Machine.{back, fits!, nonNeg-by, index-by}
 
 -- ---- bounds

@@ -11,7 +11,7 @@ use lib.Signed.{_≤ℤ_}
 use mir.Syntax.{w64}
 use mir.Val.{SFits, toZ}
 use Rattle.whole.specs.Sums.{Σ<}
-use Rattle.whole.specs.Bounds.{_within_, _upto_}
+use Rattle.whole.specs.Bounds.{_within_}
 use Rattle.whole.proofs.Expressions.{var, lit, _⊕_, le!, eq!, eq?}
 use Rattle.whole.proofs.Numbers.{abs-add}
 use Rattle.whole.proofs.Bounds.{within-fits}

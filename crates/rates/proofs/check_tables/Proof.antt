@@ -20,9 +20,6 @@ returns-3 : tie.Need-returns-3
 unfolding lengthsRight
 returns-3 c = let e = ne-eqb _ _ (c .if3 .taken) in answers-1 _ _ _ (search tests)
 
-broken-place-requires : tie.Need-broken-place-requires
-broken-place-requires c κs = search needs
-
 returns-4 : tie.Need-returns-4
 returns-4 c =
     let g = c .before .before in
@@ -35,4 +32,4 @@ returns-5 c =
 
 pub check-tables-spec : {M : Type 1} → statement M
 check-tables-spec =
-    tie.close (tie.spec returns returns-2 returns-3 broken-place-requires returns-4 returns-5)
+    tie.close (tie.spec returns returns-2 returns-3 (λ c κs. search needs) returns-4 returns-5)

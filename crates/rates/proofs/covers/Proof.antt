@@ -18,9 +18,6 @@ returns : tie.Need-returns
 unfolding soundRow
 returns c = sym (first-out _ _ (first-out _ _ (ne-eqb _ _ (c .if1 .taken))))
 
-broken-number-requires : tie.Need-broken-number-requires
-broken-number-requires c κs = search needs
-
 returns-2 : tie.Need-returns-2
 returns-2 c = sym (first-out _ _ (broken-by _ (c .before .before .if1 .left) _ (c .before .broken-number .ensures) (c .if2 .taken)))
 
@@ -32,4 +29,4 @@ returns-3 c = and-then _ _ (sound (c .before)) (c .passes .ensures)
 
 pub covers-spec : {M : Type 1} → statement M
 covers-spec =
-    tie.close (tie.spec returns broken-number-requires returns-2 passes-requires returns-3)
+    tie.close (tie.spec returns (λ c κs. search needs) returns-2 passes-requires returns-3)

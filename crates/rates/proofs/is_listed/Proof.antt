@@ -1,6 +1,6 @@
 -- `rates::is_listed` meets its contract: number 0 of the asset's row is its kind, and a table without that row lists nothing there.
 -- Assumes nothing.
-use mathlib.Core.Path.{_≡_, sym, ap, _∙_}
+use mathlib.Core.Path.{sym, ap, _∙_}
 use mathlib.Core.Bool.{not}
 use native.Mathlib.Omega.{arith}
 use borrow.Author.Needs.{needs}

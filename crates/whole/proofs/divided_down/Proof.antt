@@ -1,7 +1,6 @@
 -- `whole::divided_down` meets its contract: from 0 up the machine's quotient rounds down. Assumes nothing.
 use mathlib.Core.Path.{_≡_, sym, _∙_, subst}
 use Prim.Native.Nat.{_<_}
-use native.Mathlib.Omega.{arith}
 use lib.IntN.{ℤ, pos, negsuc, natAbs}
 use lib.Signed.{_≤ℤ_, quotZ}
 use mir.Syntax.{w64}

@@ -1,6 +1,6 @@
 -- `whole::divided_up` meets its contract: rounding up is rounding down of `by − 1` more. Assumes nothing.
-use mathlib.Core.Path.{_≡_, sym, ap, ap₂, _∙_, subst}
-use lib.IntN.{ℤ, pos, natAbs, _+ℤ_, _-ℤ_}
+use mathlib.Core.Path.{ap₂, _∙_}
+use lib.IntN.{ℤ, natAbs}
 use mir.Facts.{toZ-ofZ}
 use Rattle.whole.specs.Numbers.{dividedDown}
 use Rattle.whole.proofs.PlusMinus.{abs-is}

@@ -1,6 +1,6 @@
 -- `whole::lies_between` meets its contract: the second test is made where the first passed.
 -- Assumes nothing.
-use mathlib.Core.Path.{_≡_, refl, sym, _∙_}
+use mathlib.Core.Path.{refl, sym, _∙_}
 use mir.Facts.{toZ-ofZ}
 use Rattle.whole.specs.Bounds.{between}
 use Rattle.whole.proofs.Tests.{and-then, first-out}

@@ -15,23 +15,11 @@ use Rattle.rates.proofs.cover.outer_width.Tie as tie
 width : (c : tie.After-greater) → back (c .greater .result) ≡ outerWidth (now (c .before .before .before .before .args .row)) 0
 width c = toZ-ofZ (c .greater .ensures .1) ∙ c .greater .ensures .0 ∙ width-back _ (c .before .before .before .before .pre)
 
-shared-slice-copy-out-mid : tie.Need-shared-slice-copy-out-mid
-shared-slice-copy-out-mid c = search needs
-
-shared-slice-copy-out-greater : tie.Need-shared-slice-copy-out-greater
-shared-slice-copy-out-greater c = search needs
-
 sub-greater : tie.Need-sub-greater
 sub-greater c = below-fits _ (c .before .before .pre)
 
-shared-slice-copy-out-greater-2 : tie.Need-shared-slice-copy-out-greater-2
-shared-slice-copy-out-greater-2 c = search needs
-
 sub-greater-2 : tie.Need-sub-greater-2
 sub-greater-2 c = above-fits _ (c .before .before .before .pre)
-
-greater-requires : tie.Need-greater-requires
-greater-requires c κs = search needs
 
 returns : tie.Need-returns
 returns c = (width c, subst (λ (w : ℤ). w upto 10000000) (sym (width c)) (width-upto _ (c .before .before .before .before .pre)))
@@ -40,10 +28,10 @@ pub outer-width-spec : {M : Type 1} → statement M
 outer-width-spec =
     tie.close
     (tie.spec
-    shared-slice-copy-out-mid
-    shared-slice-copy-out-greater
+    (λ c. search needs)
+    (λ c. search needs)
     sub-greater
-    shared-slice-copy-out-greater-2
+    (λ c. search needs)
     sub-greater-2
-    greater-requires
+    (λ c κs. search needs)
     returns)

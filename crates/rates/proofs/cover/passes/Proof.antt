@@ -14,27 +14,12 @@ use Rattle.rates.proofs.CoverTest.{charge-fits, level-fits, lower-fits,
 use Rattle.rates.proofs.cover.passes.Statement.{statement}
 use Rattle.rates.proofs.cover.passes.Tie as tie
 
-number-between-requires : tie.Need-number-between-requires
-number-between-requires c κs = search needs
-
 returns : tie.Need-returns
 unfolding coverTest
 returns c = sym (first-out _ _ (ap not (passed (c .before .number-between .ensures) (c .if1 .taken))))
 
-outer-width-requires : tie.Need-outer-width-requires
-outer-width-requires c κs = search needs
-
-shared-slice-copy-out-price : tie.Need-shared-slice-copy-out-price
-shared-slice-copy-out-price c = search needs
-
-shared-slice-copy-out-result : tie.Need-shared-slice-copy-out-result
-shared-slice-copy-out-result c = search needs
-
 mul-result : tie.Need-mul-result
 mul-result c = charge-fits _ (c .before .before .before .before .before .pre)
-
-shared-slice-copy-out-result-2 : tie.Need-shared-slice-copy-out-result-2
-shared-slice-copy-out-result-2 c = search needs
 
 add-result : tie.Need-add-result
 add-result c =
@@ -64,13 +49,13 @@ pub passes-spec : {M : Type 1} → statement M
 passes-spec =
     tie.close
     (tie.spec
-    number-between-requires
+    (λ c κs. search needs)
     returns
-    outer-width-requires
-    shared-slice-copy-out-price
-    shared-slice-copy-out-result
+    (λ c κs. search needs)
+    (λ c. search needs)
+    (λ c. search needs)
     mul-result
-    shared-slice-copy-out-result-2
+    (λ c. search needs)
     add-result
     sub-result
     mul-result-2

@@ -6,29 +6,8 @@ use Rattle.rates.proofs.Comparisons.{highest-fits, above-back}
 use Rattle.rates.proofs.dates.above_mid.Statement.{statement}
 use Rattle.rates.proofs.dates.above_mid.Tie as tie
 
-mul-lies-between : tie.Need-mul-lies-between
-mul-lies-between c = search needs
-
-shared-slice-copy-out-lies-between : tie.Need-shared-slice-copy-out-lies-between
-shared-slice-copy-out-lies-between c = search needs
-
-mul-lies-between-2 : tie.Need-mul-lies-between-2
-mul-lies-between-2 c = search needs
-
-shared-slice-copy-out-lies-between-2 : tie.Need-shared-slice-copy-out-lies-between-2
-shared-slice-copy-out-lies-between-2 c = search needs
-
-mul-lies-between-3 : tie.Need-mul-lies-between-3
-mul-lies-between-3 c = search needs
-
-shared-slice-copy-out-lies-between-3 : tie.Need-shared-slice-copy-out-lies-between-3
-shared-slice-copy-out-lies-between-3 c = search needs
-
 add-lies-between : tie.Need-add-lies-between
 add-lies-between c = highest-fits _ (sfits-of (c .lies-between-arg3 .given)) (c .before .before .before .pre .3)
-
-lies-between-requires : tie.Need-lies-between-requires
-lies-between-requires c κs = search needs
 
 returns : tie.Need-returns
 returns c =
@@ -41,12 +20,12 @@ pub above-mid-spec : {M : Type 1} → statement M
 above-mid-spec =
     tie.close
     (tie.spec
-    mul-lies-between
-    shared-slice-copy-out-lies-between
-    mul-lies-between-2
-    shared-slice-copy-out-lies-between-2
-    mul-lies-between-3
-    shared-slice-copy-out-lies-between-3
+    (λ c. search needs)
+    (λ c. search needs)
+    (λ c. search needs)
+    (λ c. search needs)
+    (λ c. search needs)
+    (λ c. search needs)
     add-lies-between
-    lies-between-requires
+    (λ c κs. search needs)
     returns)

@@ -6,29 +6,8 @@ use Rattle.rates.proofs.Comparisons.{lowest-fits, below-back}
 use Rattle.rates.proofs.dates.below_mid.Statement.{statement}
 use Rattle.rates.proofs.dates.below_mid.Tie as tie
 
-mul-lies-between : tie.Need-mul-lies-between
-mul-lies-between c = search needs
-
-shared-slice-copy-out-lies-between : tie.Need-shared-slice-copy-out-lies-between
-shared-slice-copy-out-lies-between c = search needs
-
 sub-lies-between : tie.Need-sub-lies-between
 sub-lies-between c = lowest-fits _ (sfits-of (c .lies-between-arg .given)) (c .before .pre .3)
-
-mul-lies-between-2 : tie.Need-mul-lies-between-2
-mul-lies-between-2 c = search needs
-
-shared-slice-copy-out-lies-between-2 : tie.Need-shared-slice-copy-out-lies-between-2
-shared-slice-copy-out-lies-between-2 c = search needs
-
-mul-lies-between-3 : tie.Need-mul-lies-between-3
-mul-lies-between-3 c = search needs
-
-shared-slice-copy-out-lies-between-3 : tie.Need-shared-slice-copy-out-lies-between-3
-shared-slice-copy-out-lies-between-3 c = search needs
-
-lies-between-requires : tie.Need-lies-between-requires
-lies-between-requires c κs = search needs
 
 returns : tie.Need-returns
 returns c =
@@ -41,12 +20,12 @@ pub below-mid-spec : {M : Type 1} → statement M
 below-mid-spec =
     tie.close
     (tie.spec
-    mul-lies-between
-    shared-slice-copy-out-lies-between
+    (λ c. search needs)
+    (λ c. search needs)
     sub-lies-between
-    mul-lies-between-2
-    shared-slice-copy-out-lies-between-2
-    mul-lies-between-3
-    shared-slice-copy-out-lies-between-3
-    lies-between-requires
+    (λ c. search needs)
+    (λ c. search needs)
+    (λ c. search needs)
+    (λ c. search needs)
+    (λ c κs. search needs)
     returns)

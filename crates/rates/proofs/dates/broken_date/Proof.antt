@@ -18,21 +18,9 @@ use Rattle.rates.proofs.dates.broken_date.Tie as tie
 near : (c : tie.Else1) → between (negsuc 9999999) (mid (now (c .before .before .args .row)) (c .before .before .args .d)) tenMillion ≡ true
 near c = near-mid _ (c .before .before .pre .2) _ (left (c .before .level-right .ensures) (c .if1 .left))
 
-mul-mid : tie.Need-mul-mid
-mul-mid c = search needs
-
-add-mid : tie.Need-add-mid
-add-mid c = search needs
-
-level-right-requires : tie.Need-level-right-requires
-level-right-requires c κs = search needs
-
 returns : tie.Need-returns
 unfolding dateMarks
 returns c = first (no (search tests))
-
-add-below-mid : tie.Need-add-below-mid
-add-below-mid c = search needs
 
 below-mid-requires : tie.Need-below-mid-requires
 below-mid-requires c κs = (search needs, search needs, search needs, near c)
@@ -41,9 +29,6 @@ returns-2 : tie.Need-returns-2
 unfolding dateMarks
 returns-2 c = first (yes (search tests) (no (search tests)))
 
-add-above-mid : tie.Need-add-above-mid
-add-above-mid c = search needs
-
 above-mid-requires : tie.Need-above-mid-requires
 above-mid-requires c κs = (search needs, search needs, search needs, near (c .before .before))
 
@@ -51,24 +36,12 @@ returns-3 : tie.Need-returns-3
 unfolding dateMarks
 returns-3 c = first (yes (search tests) (yes (search tests) (no (search tests))))
 
-add-below-mid-2 : tie.Need-add-below-mid-2
-add-below-mid-2 c = search needs
-
-add-below-mid-3 : tie.Need-add-below-mid-3
-add-below-mid-3 c = search needs
-
 below-mid-requires-2 : tie.Need-below-mid-requires-2
 below-mid-requires-2 c κs = (search needs, search needs, search needs, near (c .before .before .before .before))
 
 returns-4 : tie.Need-returns-4
 unfolding dateMarks
 returns-4 c = first (yes (search tests) (yes (search tests) (yes (search tests) (no (search tests)))))
-
-add-above-mid-2 : tie.Need-add-above-mid-2
-add-above-mid-2 c = search needs
-
-add-above-mid-3 : tie.Need-add-above-mid-3
-add-above-mid-3 c = search needs
 
 above-mid-requires-2 : tie.Need-above-mid-requires-2
 above-mid-requires-2 c κs = (search needs, search needs, search needs, near (c .before .before .before .before .before .before))
@@ -85,22 +58,22 @@ pub broken-date-spec : {M : Type 1} → statement M
 broken-date-spec =
     tie.close
     (tie.spec
-    mul-mid
-    add-mid
-    level-right-requires
+    (λ c. search needs)
+    (λ c. search needs)
+    (λ c κs. search needs)
     returns
-    add-below-mid
+    (λ c. search needs)
     below-mid-requires
     returns-2
-    add-above-mid
+    (λ c. search needs)
     above-mid-requires
     returns-3
-    add-below-mid-2
-    add-below-mid-3
+    (λ c. search needs)
+    (λ c. search needs)
     below-mid-requires-2
     returns-4
-    add-above-mid-2
-    add-above-mid-3
+    (λ c. search needs)
+    (λ c. search needs)
     above-mid-requires-2
     returns-5
     returns-6)

@@ -24,32 +24,17 @@ loop-holds c = (search needs, omega arith)
 broken-date-requires : tie.Need-broken-date-requires Inv-loop μ-loop
 broken-date-requires c κs = (search needs, search needs, c .before .before .pre .1)
 
-mul-result : tie.Need-mul-result Inv-loop μ-loop
-mul-result c = search needs
-
-add-result : tie.Need-add-result Inv-loop μ-loop
-add-result c = search needs
-
 returns : tie.Need-returns Inv-loop μ-loop
 returns c =
     let l = c .before .before .before in
     let row = now (l .before .args .row) in
     omega (arith, piece-wrong (dateMarks row) 5 8 (l .loop .d) (omega arith) (date-count row (l .loop .d)) (omega arith))
 
-add-d : tie.Need-add-d Inv-loop μ-loop
-add-d c = search needs
-
-loop-less : tie.Need-loop-less Inv-loop μ-loop
-loop-less c = search needs
-
 loop-again : tie.Need-loop-again Inv-loop μ-loop
 loop-again c =
     let l = c .before .before .before in
     let row = now (l .before .args .row) in
     (search needs, l .loop .inv .1 ∙ piece-right (dateMarks row) 5 8 (l .loop .d) (omega arith) (date-count row (l .loop .d)) (omega arith))
-
-mul-result-2 : tie.Need-mul-result-2 Inv-loop μ-loop
-mul-result-2 c = search needs
 
 returns-2 : tie.Need-returns-2 Inv-loop μ-loop
 returns-2 c = omega (arith, pieces-end (dateMarks (now (c .before .before .args .row))) 5 8 (c .before .loop .d) (omega arith))
@@ -62,11 +47,11 @@ broken-dates-spec =
     μ-loop
     loop-holds
     broken-date-requires
-    mul-result
-    add-result
+    (λ c. search needs)
+    (λ c. search needs)
     returns
-    add-d
-    loop-less
+    (λ c. search needs)
+    (λ c. search needs)
     loop-again
-    mul-result-2
+    (λ c. search needs)
     returns-2)

@@ -7,43 +7,25 @@ use Rattle.whole.proofs.Marks.{none, yes, no, first}
 use Rattle.rates.proofs.row.broken_limit.Statement.{statement}
 use Rattle.rates.proofs.row.broken_limit.Tie as tie
 
-number-between-requires : tie.Need-number-between-requires
-number-between-requires c κs = search needs
-
 returns : tie.Need-returns
 unfolding limitMarks
 returns c = first (no (search tests))
-
-number-between-requires-2 : tie.Need-number-between-requires-2
-number-between-requires-2 c κs = search needs
 
 returns-2 : tie.Need-returns-2
 unfolding limitMarks
 returns-2 c = first (yes (search tests) (no (search tests)))
 
-number-between-requires-3 : tie.Need-number-between-requires-3
-number-between-requires-3 c κs = search needs
-
 returns-3 : tie.Need-returns-3
 unfolding limitMarks
 returns-3 c = first (yes (search tests) (yes (search tests) (no (search tests))))
-
-number-between-requires-4 : tie.Need-number-between-requires-4
-number-between-requires-4 c κs = search needs
 
 returns-4 : tie.Need-returns-4
 unfolding limitMarks
 returns-4 c = first (yes (search tests) (yes (search tests) (yes (search tests) (no (search tests)))))
 
-number-between-requires-5 : tie.Need-number-between-requires-5
-number-between-requires-5 c κs = search needs
-
 returns-5 : tie.Need-returns-5
 unfolding limitMarks
 returns-5 c = first (yes (search tests) (yes (search tests) (yes (search tests) (yes (search tests) (no (search tests))))))
-
-number-between-requires-6 : tie.Need-number-between-requires-6
-number-between-requires-6 c κs = search needs
 
 returns-6 : tie.Need-returns-6
 unfolding limitMarks
@@ -57,16 +39,16 @@ pub broken-limit-spec : {M : Type 1} → statement M
 broken-limit-spec =
     tie.close
     (tie.spec
-    number-between-requires
+    (λ c κs. search needs)
     returns
-    number-between-requires-2
+    (λ c κs. search needs)
     returns-2
-    number-between-requires-3
+    (λ c κs. search needs)
     returns-3
-    number-between-requires-4
+    (λ c κs. search needs)
     returns-4
-    number-between-requires-5
+    (λ c κs. search needs)
     returns-5
-    number-between-requires-6
+    (λ c κs. search needs)
     returns-6
     returns-7)

@@ -10,14 +10,14 @@ use lib.IntN.{ℤ, pos}
 use lib.ListN.{drop}
 use denote.Ref.{now}
 use borrow.Author.Needs.{needs}
+use Rattle.whole.proofs.Parts.{to-end}
 use Rattle.whole.specs.Bounds.{between, isZero}
 use Rattle.whole.specs.Marks.{firstFalse}
 use Rattle.rates.specs.Units.{tenMillion}
 use Rattle.rates.specs.Row.{price}
 use Rattle.rates.specs.Rules.{termMarks, rateMarks, limitMarks, listedMarks}
-use Rattle.whole.proofs.Marks.{first-at-most, true-before}
+use Rattle.whole.proofs.Marks.{first-at-most, true-before, stops-in, goes-past}
 use Rattle.rates.proofs.Counts.{terms-count, rates-count, limits-count, dates-count, last-count}
-use Rattle.rates.proofs.Marks.{stops-in, goes-past, to-end}
 use Rattle.rates.proofs.row.broken_listed.Statement.{statement}
 use Rattle.rates.proofs.row.broken_listed.Tie as tie
 
@@ -25,7 +25,8 @@ past-terms : (c : tie.Else1) (b : List Bool) (s : ℕ) → s ≡ firstFalse b �
 past-terms c b = goes-past _ b 6 _ (terms-count _) (c .before .broken-term .ensures) (c .if1 .left)
 
 past-rates : (c : tie.Else2) (b : List Bool) (s : ℕ) → s ≡ firstFalse b
-    → 10 + s ≡ firstFalse (termMarks (now (c .before .before .before .before .args .row)) ++ (rateMarks (now (c .before .before .before .before .args .row)) ++ b))
+    → let row = now (c .before .before .before .before .args .row) in
+    10 + s ≡ firstFalse (termMarks row ++ (rateMarks row ++ b))
 past-rates c b s e = add-assoc 6 4 s ∙ past-terms (c .before .before) _ _ (goes-past _ b 4 _ (rates-count _) (c .before .broken-rate .ensures) (c .if2 .left) s e)
 
 past-limits : (c : tie.Else3) (b : List Bool) (s : ℕ) → s ≡ firstFalse b
@@ -38,31 +39,19 @@ unfolding termMarks
 price-right c = true-before (termMarks (now (c .before .before .args .row))) 1 (omega arith)
 
 last : (c : tie.After-first-nonzero)
-    → c .first-nonzero .result ≡ firstFalse (map isZero (drop 56 (now (c .before .before .before .before .before .before .before .before .before .before .args .row))))
-last c = c .first-nonzero .ensures ∙ ap (λ (l : List ℤ). firstFalse (map isZero l)) (to-end 56 (now (c .before .before .before .before .before .before .before .before .before .before .args .row)))
-
-broken-term-requires : tie.Need-broken-term-requires
-broken-term-requires c κs = search needs
+    → let row = now (c .before .before .before .before .before .before .before .before .before .before .args .row) in
+    c .first-nonzero .result ≡ firstFalse (map isZero (drop 56 row))
+last c =
+    let row = now (c .before .before .before .before .before .before .before .before .before .before .args .row) in
+    c .first-nonzero .ensures ∙ ap (λ (l : List ℤ). firstFalse (map isZero l)) (to-end 56 row)
 
 returns : tie.Need-returns
 unfolding listedMarks
 returns c = stops-in _ _ 6 _ (terms-count _) (c .before .broken-term .ensures) (c .if1 .taken)
 
-broken-rate-requires : tie.Need-broken-rate-requires
-broken-rate-requires c κs = search needs
-
-add-result : tie.Need-add-result
-add-result c = search needs
-
 returns-2 : tie.Need-returns-2
 unfolding listedMarks
 returns-2 c = past-terms (c .before .before) _ _ (stops-in _ _ 4 _ (rates-count _) (c .before .broken-rate .ensures) (c .if2 .taken))
-
-broken-limit-requires : tie.Need-broken-limit-requires
-broken-limit-requires c κs = search needs
-
-add-result-2 : tie.Need-add-result-2
-add-result-2 c = search needs
 
 returns-3 : tie.Need-returns-3
 unfolding listedMarks
@@ -71,24 +60,9 @@ returns-3 c = past-rates (c .before .before) _ _ (stops-in _ _ 6 _ (limits-count
 broken-dates-requires : tie.Need-broken-dates-requires
 broken-dates-requires c κs = (search needs, price-right (c .before .before .before .before))
 
-add-result-3 : tie.Need-add-result-3
-add-result-3 c = search needs
-
 returns-4 : tie.Need-returns-4
 unfolding listedMarks
 returns-4 c = past-limits (c .before .before) _ _ (stops-in _ _ 40 _ (dates-count _) (c .before .broken-dates .ensures) (c .if4 .taken))
-
-sub-first-nonzero : tie.Need-sub-first-nonzero
-sub-first-nonzero c = search needs
-
-part-first-nonzero-start : tie.Need-part-first-nonzero-start
-part-first-nonzero-start c = search needs
-
-part-first-nonzero-end : tie.Need-part-first-nonzero-end
-part-first-nonzero-end c = search needs
-
-first-nonzero-requires : tie.Need-first-nonzero-requires
-first-nonzero-requires c κs = search needs
 
 add-result-4 : tie.Need-add-result-4
 add-result-4 c =
@@ -105,20 +79,20 @@ pub broken-listed-spec : {M : Type 1} → statement M
 broken-listed-spec =
     tie.close
     (tie.spec
-    broken-term-requires
+    (λ c κs. search needs)
     returns
-    broken-rate-requires
-    add-result
+    (λ c κs. search needs)
+    (λ c. search needs)
     returns-2
-    broken-limit-requires
-    add-result-2
+    (λ c κs. search needs)
+    (λ c. search needs)
     returns-3
     broken-dates-requires
-    add-result-3
+    (λ c. search needs)
     returns-4
-    sub-first-nonzero
-    part-first-nonzero-start
-    part-first-nonzero-end
-    first-nonzero-requires
+    (λ c. search needs)
+    (λ c. search needs)
+    (λ c. search needs)
+    (λ c κs. search needs)
     add-result-4
     returns-5)

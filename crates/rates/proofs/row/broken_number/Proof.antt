@@ -6,18 +6,9 @@ use Rattle.whole.proofs.Tests.{passed, failed}
 use Rattle.rates.proofs.row.broken_number.Statement.{statement}
 use Rattle.rates.proofs.row.broken_number.Tie as tie
 
-number-between-requires : tie.Need-number-between-requires
-number-between-requires c κs = search needs
-
-first-nonzero-requires : tie.Need-first-nonzero-requires
-first-nonzero-requires c κs = search needs
-
 returns : tie.Need-returns
 unfolding rowMarks
 returns c = rw (passed (c .before .before .number-between .ensures) (c .before .if1 .taken)) (c .first-nonzero .ensures)
-
-broken-listed-requires : tie.Need-broken-listed-requires
-broken-listed-requires c κs = search needs
 
 returns-2 : tie.Need-returns-2
 unfolding rowMarks
@@ -27,8 +18,8 @@ pub broken-number-spec : {M : Type 1} → statement M
 broken-number-spec =
     tie.close
     (tie.spec
-    number-between-requires
-    first-nonzero-requires
+    (λ c κs. search needs)
+    (λ c κs. search needs)
     returns
-    broken-listed-requires
+    (λ c κs. search needs)
     returns-2)

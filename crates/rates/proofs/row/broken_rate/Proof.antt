@@ -7,43 +7,25 @@ use Rattle.whole.proofs.Marks.{none, yes, no, first}
 use Rattle.rates.proofs.row.broken_rate.Statement.{statement}
 use Rattle.rates.proofs.row.broken_rate.Tie as tie
 
-number-between-requires : tie.Need-number-between-requires
-number-between-requires c κs = search needs
-
 returns : tie.Need-returns
 unfolding rateMarks
 returns c = first (no (search tests))
-
-number-between-requires-2 : tie.Need-number-between-requires-2
-number-between-requires-2 c κs = search needs
 
 returns-2 : tie.Need-returns-2
 unfolding rateMarks
 returns-2 c = first (yes (search tests) (no (search tests)))
 
-equal-for-commodity-requires : tie.Need-equal-for-commodity-requires
-equal-for-commodity-requires c κs = search needs
-
 returns-3 : tie.Need-returns-3
 unfolding rateMarks
 returns-3 c = first (yes (search tests) (no (search tests)))
-
-raised-from-requires : tie.Need-raised-from-requires
-raised-from-requires c κs = search needs
 
 returns-4 : tie.Need-returns-4
 unfolding rateMarks
 returns-4 c = first (yes (search tests) (yes (search tests) (no (search tests))))
 
-raised-from-requires-2 : tie.Need-raised-from-requires-2
-raised-from-requires-2 c κs = search needs
-
 returns-5 : tie.Need-returns-5
 unfolding rateMarks
 returns-5 c = first (yes (search tests) (yes (search tests) (yes (search tests) (no (search tests)))))
-
-equal-for-commodity-requires-2 : tie.Need-equal-for-commodity-requires-2
-equal-for-commodity-requires-2 c κs = search needs
 
 returns-6 : tie.Need-returns-6
 unfolding rateMarks
@@ -57,16 +39,16 @@ pub broken-rate-spec : {M : Type 1} → statement M
 broken-rate-spec =
     tie.close
     (tie.spec
-    number-between-requires
+    (λ c κs. search needs)
     returns
-    number-between-requires-2
+    (λ c κs. search needs)
     returns-2
-    equal-for-commodity-requires
+    (λ c κs. search needs)
     returns-3
-    raised-from-requires
+    (λ c κs. search needs)
     returns-4
-    raised-from-requires-2
+    (λ c κs. search needs)
     returns-5
-    equal-for-commodity-requires-2
+    (λ c κs. search needs)
     returns-6
     returns-7)

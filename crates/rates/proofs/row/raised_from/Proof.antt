@@ -8,21 +8,6 @@ use Rattle.whole.proofs.Bounds.{between-back}
 use Rattle.rates.proofs.row.raised_from.Statement.{statement}
 use Rattle.rates.proofs.row.raised_from.Tie as tie
 
-mul-lies-between : tie.Need-mul-lies-between
-mul-lies-between c = search needs
-
-shared-slice-copy-out-lies-between : tie.Need-shared-slice-copy-out-lies-between
-shared-slice-copy-out-lies-between c = search needs
-
-mul-lies-between-2 : tie.Need-mul-lies-between-2
-mul-lies-between-2 c = search needs
-
-shared-slice-copy-out-lies-between-2 : tie.Need-shared-slice-copy-out-lies-between-2
-shared-slice-copy-out-lies-between-2 c = search needs
-
-lies-between-requires : tie.Need-lies-between-requires
-lies-between-requires c κs = search needs
-
 returns : tie.Need-returns
 returns c =
     let base = sfits-of (c .before .before .lies-between-arg .given) in
@@ -33,9 +18,9 @@ pub raised-from-spec : {M : Type 1} → statement M
 raised-from-spec =
     tie.close
     (tie.spec
-    mul-lies-between
-    shared-slice-copy-out-lies-between
-    mul-lies-between-2
-    shared-slice-copy-out-lies-between-2
-    lies-between-requires
+    (λ c. search needs)
+    (λ c. search needs)
+    (λ c. search needs)
+    (λ c. search needs)
+    (λ c κs. search needs)
     returns)

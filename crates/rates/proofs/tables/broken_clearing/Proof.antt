@@ -33,31 +33,10 @@ found c =
 loop-holds : tie.Need-loop-holds Inv-loop μ-loop
 loop-holds c = (search needs, omega arith)
 
-mul-at : tie.Need-mul-at Inv-loop μ-loop
-mul-at c = search needs
-
-add-broken-number : tie.Need-add-broken-number Inv-loop μ-loop
-add-broken-number c = search needs
-
-mul-broken-number : tie.Need-mul-broken-number Inv-loop μ-loop
-mul-broken-number c = search needs
-
-sub-broken-number : tie.Need-sub-broken-number Inv-loop μ-loop
-sub-broken-number c = search needs
-
-part-broken-number-start : tie.Need-part-broken-number-start Inv-loop μ-loop
-part-broken-number-start c = search needs
-
-part-broken-number-end : tie.Need-part-broken-number-end Inv-loop μ-loop
-part-broken-number-end c = search needs
-
 broken-number-requires : tie.Need-broken-number-requires Inv-loop μ-loop
 broken-number-requires c κs =
     let l = c .before .before in
     ap length (cut (64 * l .loop .a) 64 _) ∙ row-long _ (l .before .pre) (l .loop .a) (c .before .loop-test .taken)
-
-add-result : tie.Need-add-result Inv-loop μ-loop
-add-result c = search needs
 
 returns : tie.Need-returns Inv-loop μ-loop
 returns c =
@@ -65,12 +44,6 @@ returns c =
     let t = now (l .before .args .clearing) in
     let e = found (c .before) in
     omega (arith, piece-wrong (clearingMarks t) 64 16 (l .loop .a) (omega arith) (clearing-row-count t (omega arith) (l .loop .a) (omega arith)) (omega arith))
-
-add-a : tie.Need-add-a Inv-loop μ-loop
-add-a c = search needs
-
-loop-less : tie.Need-loop-less Inv-loop μ-loop
-loop-less c = search needs
 
 loop-again : tie.Need-loop-again Inv-loop μ-loop
 loop-again c =
@@ -89,16 +62,16 @@ broken-clearing-spec =
     Inv-loop
     μ-loop
     loop-holds
-    mul-at
-    add-broken-number
-    mul-broken-number
-    sub-broken-number
-    part-broken-number-start
-    part-broken-number-end
+    (λ c. search needs)
+    (λ c. search needs)
+    (λ c. search needs)
+    (λ c. search needs)
+    (λ c. search needs)
+    (λ c. search needs)
     broken-number-requires
-    add-result
+    (λ c. search needs)
     returns
-    add-a
-    loop-less
+    (λ c. search needs)
+    (λ c. search needs)
     loop-again
     returns-2)

@@ -33,39 +33,6 @@ found c =
 loop-holds : tie.Need-loop-holds Inv-loop μ-loop
 loop-holds c = (search needs, omega arith)
 
-mul-at : tie.Need-mul-at Inv-loop μ-loop
-mul-at c = search needs
-
-add-broken-own-row : tie.Need-add-broken-own-row Inv-loop μ-loop
-add-broken-own-row c = search needs
-
-mul-broken-own-row : tie.Need-mul-broken-own-row Inv-loop μ-loop
-mul-broken-own-row c = search needs
-
-sub-broken-own-row : tie.Need-sub-broken-own-row Inv-loop μ-loop
-sub-broken-own-row c = search needs
-
-part-broken-own-row-start : tie.Need-part-broken-own-row-start Inv-loop μ-loop
-part-broken-own-row-start c = search needs
-
-part-broken-own-row-end : tie.Need-part-broken-own-row-end Inv-loop μ-loop
-part-broken-own-row-end c = search needs
-
-add-broken-own-row-2 : tie.Need-add-broken-own-row-2 Inv-loop μ-loop
-add-broken-own-row-2 c = search needs
-
-mul-broken-own-row-2 : tie.Need-mul-broken-own-row-2 Inv-loop μ-loop
-mul-broken-own-row-2 c = search needs
-
-sub-broken-own-row-2 : tie.Need-sub-broken-own-row-2 Inv-loop μ-loop
-sub-broken-own-row-2 c = search needs
-
-part-broken-own-row-start-2 : tie.Need-part-broken-own-row-start-2 Inv-loop μ-loop
-part-broken-own-row-start-2 c = search needs
-
-part-broken-own-row-end-2 : tie.Need-part-broken-own-row-end-2 Inv-loop μ-loop
-part-broken-own-row-end-2 c = search needs
-
 broken-own-row-requires : tie.Need-broken-own-row-requires Inv-loop μ-loop
 broken-own-row-requires c κs =
     let l = c .before .before .before in
@@ -74,9 +41,6 @@ broken-own-row-requires c κs =
       ap length (cut (64 * a) 64 _) ∙ row-long _ (l .before .pre .0) a (c .before .before .loop-test .taken),
     )
 
-add-result : tie.Need-add-result Inv-loop μ-loop
-add-result c = search needs
-
 returns : tie.Need-returns Inv-loop μ-loop
 returns c =
     let l = c .before .before .before .before .before in
@@ -84,12 +48,6 @@ returns c =
     let o = now (l .before .args .own) in
     let e = found (c .before) in
     omega (arith, piece-wrong (ownMarks t o) 64 16 (l .loop .a) (omega arith) (own-marks-count t o (omega arith) (l .loop .a) (omega arith)) (omega arith))
-
-add-a : tie.Need-add-a Inv-loop μ-loop
-add-a c = search needs
-
-loop-less : tie.Need-loop-less Inv-loop μ-loop
-loop-less c = search needs
 
 loop-again : tie.Need-loop-again Inv-loop μ-loop
 loop-again c =
@@ -111,21 +69,21 @@ broken-own-spec =
     Inv-loop
     μ-loop
     loop-holds
-    mul-at
-    add-broken-own-row
-    mul-broken-own-row
-    sub-broken-own-row
-    part-broken-own-row-start
-    part-broken-own-row-end
-    add-broken-own-row-2
-    mul-broken-own-row-2
-    sub-broken-own-row-2
-    part-broken-own-row-start-2
-    part-broken-own-row-end-2
+    (λ c. search needs)
+    (λ c. search needs)
+    (λ c. search needs)
+    (λ c. search needs)
+    (λ c. search needs)
+    (λ c. search needs)
+    (λ c. search needs)
+    (λ c. search needs)
+    (λ c. search needs)
+    (λ c. search needs)
+    (λ c. search needs)
     broken-own-row-requires
-    add-result
+    (λ c. search needs)
     returns
-    add-a
-    loop-less
+    (λ c. search needs)
+    (λ c. search needs)
     loop-again
     returns-2)

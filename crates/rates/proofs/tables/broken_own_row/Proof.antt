@@ -9,24 +9,15 @@ use Rattle.rates.proofs.OwnRow.{absent-by, present-by}
 use Rattle.rates.proofs.tables.broken_own_row.Statement.{statement}
 use Rattle.rates.proofs.tables.broken_own_row.Tie as tie
 
-first-nonzero-requires : tie.Need-first-nonzero-requires
-first-nonzero-requires c κs = search needs
-
 returns : tie.Need-returns
 unfolding ownRowMarks firstFalse
 returns c = rw (absent-by _ (c .before .before .pre .0) _ (c .before .first-nonzero .ensures) (c .if1 .taken)) refl
-
-own-kind-right-requires : tie.Need-own-kind-right-requires
-own-kind-right-requires c κs = search needs
 
 returns-2 : tie.Need-returns-2
 unfolding ownRowMarks firstFalse
 returns-2 c =
     let e = c .before .before in
     rw (present-by _ (e .before .before .pre .0) _ (e .before .first-nonzero .ensures) (e .if1 .left), taken (c .before .own-kind-right .ensures) (c .if2 .taken)) refl
-
-broken-number-requires : tie.Need-broken-number-requires
-broken-number-requires c κs = search needs
 
 returns-3 : tie.Need-returns-3
 unfolding ownRowMarks
@@ -39,9 +30,9 @@ pub broken-own-row-spec : {M : Type 1} → statement M
 broken-own-row-spec =
     tie.close
     (tie.spec
-    first-nonzero-requires
+    (λ c κs. search needs)
     returns
-    own-kind-right-requires
+    (λ c κs. search needs)
     returns-2
-    broken-number-requires
+    (λ c κs. search needs)
     returns-3)

@@ -11,8 +11,7 @@ use denote.Ref.{now}
 use borrow.Author.Needs.{needs}
 use Rattle.whole.specs.Marks.{firstFalse, pieces}
 use Rattle.rates.specs.Tables.{percentRight, clearingMarks, tableMarks}
-use Rattle.whole.proofs.Marks.{first-at-most}
-use Rattle.rates.proofs.Marks.{stops-in, goes-past}
+use Rattle.whole.proofs.Marks.{first-at-most, stops-in, goes-past}
 use Rattle.rates.proofs.Counts.{clearing-count, own-count}
 use Rattle.rates.proofs.tables.broken_place.Statement.{statement}
 use Rattle.rates.proofs.tables.broken_place.Tie as tie
@@ -21,27 +20,15 @@ past-clearing : (c : tie.Else1) (b : List Bool) (s : ℕ) → s ≡ firstFalse b
     → 1024 + s ≡ firstFalse (pieces (clearingMarks (now (c .before .before .args .clearing))) 0 16 ++ b)
 past-clearing c b = goes-past _ b 1024 _ (clearing-count _ (c .before .before .pre .0)) (c .before .broken-clearing .ensures) (c .if1 .left)
 
-broken-clearing-requires : tie.Need-broken-clearing-requires
-broken-clearing-requires c κs = search needs
-
 returns : tie.Need-returns
 unfolding tableMarks
 returns c = stops-in _ _ 1024 _ (clearing-count _ (c .before .before .pre .0)) (c .before .broken-clearing .ensures) (c .if1 .taken)
-
-broken-own-requires : tie.Need-broken-own-requires
-broken-own-requires c κs = search needs
-
-add-result : tie.Need-add-result
-add-result c = search needs
 
 returns-2 : tie.Need-returns-2
 unfolding tableMarks
 returns-2 c =
     let s = c .before .before .before .before in
     past-clearing (c .before .before) _ _ (stops-in _ _ 1024 _ (own-count _ _ (s .pre .1)) (c .before .broken-own .ensures) (c .if2 .taken))
-
-broken-group-requires : tie.Need-broken-group-requires
-broken-group-requires c κs = search needs
 
 add-result-2 : tie.Need-add-result-2
 add-result-2 c =
@@ -59,11 +46,11 @@ pub broken-place-spec : {M : Type 1} → statement M
 broken-place-spec =
     tie.close
     (tie.spec
-    broken-clearing-requires
+    (λ c κs. search needs)
     returns
-    broken-own-requires
-    add-result
+    (λ c κs. search needs)
+    (λ c. search needs)
     returns-2
-    broken-group-requires
+    (λ c κs. search needs)
     add-result-2
     returns-3)

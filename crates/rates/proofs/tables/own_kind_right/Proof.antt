@@ -4,11 +4,11 @@ use mathlib.Core.Path.{_≡_, sym, ap, _∙_}
 use mathlib.Core.Bool.{not}
 use denote.Ref.{now}
 use borrow.Author.Needs.{needs, sfits-of}
+use Rattle.whole.proofs.Bounds.{equal-back}
 use Rattle.whole.specs.Bounds.{equal}
 use Rattle.rates.specs.Row.{kind}
 use Rattle.rates.specs.Tables.{ownKindRight}
 use Rattle.whole.proofs.Tests.{left, taken, first-out, and-then}
-use Rattle.rates.proofs.Comparisons.{equal-back}
 use Rattle.rates.proofs.tables.own_kind_right.Statement.{statement}
 use Rattle.rates.proofs.tables.own_kind_right.Tie as tie
 
@@ -16,18 +16,9 @@ same-kind : (c : tie.After-number-between)
     → c .number-between .result ≡ equal (kind (now (c .before .before .args .own))) (kind (now (c .before .before .args .clearing)))
 same-kind c = c .number-between .ensures ∙ equal-back _ (sfits-of (c .before .kind .given))
 
-shared-slice-copy-out-kind : tie.Need-shared-slice-copy-out-kind
-shared-slice-copy-out-kind c = search needs
-
-number-between-requires : tie.Need-number-between-requires
-number-between-requires c κs = search needs
-
 returns : tie.Need-returns
 unfolding ownKindRight
 returns c = sym (first-out _ _ (taken (same-kind (c .before)) (c .if1 .taken)))
-
-number-between-requires-2 : tie.Need-number-between-requires-2
-number-between-requires-2 c κs = search needs
 
 returns-2 : tie.Need-returns-2
 unfolding ownKindRight
@@ -37,8 +28,8 @@ pub own-kind-right-spec : {M : Type 1} → statement M
 own-kind-right-spec =
     tie.close
     (tie.spec
-    shared-slice-copy-out-kind
-    number-between-requires
+    (λ c. search needs)
+    (λ c κs. search needs)
     returns
-    number-between-requires-2
+    (λ c κs. search needs)
     returns-2)
