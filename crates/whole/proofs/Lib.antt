@@ -12,3 +12,4 @@ pub mod Tests
 pub mod Marks
 pub mod Refusals
 pub mod Tabulated
+pub mod Lists

@@ -1,0 +1,91 @@
+-- `rolling::day_later` meets its contract. The loop's invariant: the numbers before d have stepped on, the others are as they were.
+-- Assumes nothing.
+use mathlib.Core.Path.{_≡_, refl, sym, ap, _∙_}
+use Prim.Native.Nat.{ℕ, _+_, _-_, _≤_}
+use mathlib.Core.List.{List}
+use native.Mathlib.Omega.{arith}
+use lib.IntN.{ℤ, pos}
+use lib.ListN.{length, set, length-set}
+use mir.Facts.{toZ-ofZ}
+use borrow.Author.Needs.{needs, sfits-of}
+use Rattle.whole.specs.Parts.{number}
+use Rattle.book.proofs.DayLater.{stepped, stepped-ahead, stepped-on, stepped-end}
+use Rattle.book.proofs.rolling.day_later.Statement.{statement}
+use Rattle.book.proofs.rolling.day_later.Tie as tie
+use Rattle.book.proofs.rolling.day_later.Reads as reads
+use Rattle.book.proofs.rolling.day_later.Lts as lts
+
+abbrev Inv-loop : tie.InvT-loop
+Inv-loop numbers₀ d₀ numbers d = (length numbers₀ ≡ 8) × (length numbers ≡ 8) × (d ≤ 7) × (numbers ≡ stepped d numbers₀)
+
+abbrev μ-loop : tie.MeasureT-loop
+μ-loop numbers₀ d₀ numbers d = 7 - d
+
+loop-holds : tie.Need-loop-holds Inv-loop μ-loop
+loop-holds c = (c .pre, c .pre, omega arith, refl)
+
+add-numbers : tie.Need-add-numbers Inv-loop μ-loop
+add-numbers c = search needs
+
+mul-numbers : tie.Need-mul-numbers Inv-loop μ-loop
+mul-numbers c = search needs
+
+slice-copy-out-numbers : tie.Need-slice-copy-out-numbers Inv-loop μ-loop
+slice-copy-out-numbers c = search needs
+
+mul-t8 : tie.Need-mul-t8 Inv-loop μ-loop
+mul-t8 c = search needs
+
+slice-set-from-numbers : tie.Need-slice-set-from-numbers Inv-loop μ-loop
+slice-set-from-numbers c = search needs
+
+add-d : tie.Need-add-d Inv-loop μ-loop
+add-d c = search needs
+
+loop-less : tie.Need-loop-less Inv-loop μ-loop
+loop-less c = search needs
+
+loop-again : tie.Need-loop-again Inv-loop μ-loop
+loop-again c =
+    let l = c .before .before .loop in
+    let xs = c .before .before .before .args .numbers .now in (
+      l .inv .0,
+      simp length-set (l .inv .1),
+      omega arith,
+      ap (set (l .numbers) (l .d)) (toZ-ofZ (sfits-of (c .numbers .given)))
+          ∙ ap (λ (s : List ℤ). set s (l .d) (number s (l .d + 1))) (l .inv .3)
+          ∙ ap (set (stepped (l .d) xs) (l .d)) (stepped-ahead xs (l .d) (omega arith))
+          ∙ stepped-on xs (l .d) (omega arith) (omega arith),
+    )
+
+slice-set-of-numbers : tie.Need-slice-set-of-numbers Inv-loop μ-loop
+slice-set-of-numbers c = search needs
+
+same-length : tie.Need-same-length Inv-loop μ-loop
+same-length c = let l = c .before .loop in simp length-set (l .inv .1 ∙ sym (l .inv .0))
+
+returns : tie.Need-returns Inv-loop μ-loop
+returns c =
+    let l = c .before .loop in
+    let e : l .d ≡ 7 = omega arith in
+    ap (λ (s : List ℤ). set s 7 (pos 0)) (l .inv .3 ∙ ap (λ (k : ℕ). stepped k (c .before .before .args .numbers .now)) e)
+    ∙ stepped-end (c .before .before .args .numbers .now) 7 (omega arith) (l .inv .0)
+
+pub day-later-spec : {M : Type 1} → statement M
+day-later-spec =
+    tie.close
+    (tie.spec
+    Inv-loop
+    μ-loop
+    loop-holds
+    add-numbers
+    mul-numbers
+    slice-copy-out-numbers
+    mul-t8
+    slice-set-from-numbers
+    add-d
+    loop-less
+    loop-again
+    slice-set-of-numbers
+    same-length
+    returns)

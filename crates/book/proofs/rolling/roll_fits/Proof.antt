@@ -1,0 +1,147 @@
+-- `rolling::roll_fits` meets its contract. The loop's invariant: the holdings before a keep their bounds when rolled. Assumes nothing.
+use mathlib.Core.Path.{_≡_, refl, sym, ap, _∙_, subst}
+use mathlib.Core.Bool.{true}
+use mathlib.Core.List.{List}
+use Prim.Native.Nat.{_-_, _≤_}
+use native.Mathlib.Omega.{arith}
+use lib.IntN.{ℤ}
+use lib.ListN.{length}
+use borrow.Author.Needs.{needs}
+use Rattle.whole.specs.Parts.{part, number}
+use Rattle.whole.proofs.Tests.{left, taken}
+use Rattle.book.specs.Rules.{collateralRight, holdingsRight}
+use Rattle.book.specs.Roll.{rolledHolding, rolled}
+use Rattle.book.specs.Ranges.{HoldingRanges}
+use Rattle.book.proofs.Blocks.{lent-holding}
+use Rattle.book.proofs.InBounds.{ruble-ranges, holding-ranges}
+use Rattle.book.proofs.RollFits.{rubles-out, holding-out, holding-next, all-fit}
+use Rattle.book.proofs.rolling.roll_fits.Statement.{statement}
+use Rattle.book.proofs.rolling.roll_fits.Tie as tie
+use Rattle.book.proofs.rolling.roll_fits.Reads as reads
+use Rattle.book.proofs.rolling.roll_fits.Lts as lts
+use Rattle.book.proofs.rolling.holding_fits.Reads as holding-fits-reads
+use Rattle.book.proofs.rolling.rubles_fit.Reads as rubles-fit-reads
+
+abbrev Inv-loop : tie.InvT-loop
+Inv-loop block a₀ a = (length block ≡ 288) × (a ≤ 16) × (holdingsRight (rolled block) a ≡ true)
+
+abbrev μ-loop : tie.MeasureT-loop
+μ-loop block a₀ a = 16 - a
+
+-- a holding as it is lent and as the definition cuts it
+fits : {lent holding : List ℤ} → lent ≡ holding → collateralRight (number (rolledHolding holding) 0) ≡ collateralRight (number (rolledHolding lent) 0)
+fits e = ap (λ (h : List ℤ). collateralRight (number (rolledHolding h) 0)) (sym e)
+
+sub-rubles-fit : tie.Need-sub-rubles-fit Inv-loop μ-loop
+sub-rubles-fit c = search needs
+
+-- src/rolling.rt:82:20
+part-rubles-fit-start : tie.Need-part-rubles-fit-start Inv-loop μ-loop
+part-rubles-fit-start c = search needs
+
+-- src/rolling.rt:82:20
+part-rubles-fit-end : tie.Need-part-rubles-fit-end Inv-loop μ-loop
+part-rubles-fit-end c = search needs
+
+-- src/rolling.rt:82:9
+rubles-fit-requires : tie.Need-rubles-fit-requires Inv-loop μ-loop
+unfolding part
+rubles-fit-requires c κs = let p = c .before .pre in ruble-ranges _ (p .0) (p .1)
+
+-- src/rolling.rt:83:9
+returns : tie.Need-returns Inv-loop μ-loop
+unfolding part
+returns c = let p = c .before .before .before .pre in sym (rubles-out _ (p .0) (p .1) (taken (c .before .rubles-fit .ensures) (c .if1 .taken)))
+
+-- src/rolling.rt:86:5
+loop-holds : tie.Need-loop-holds Inv-loop μ-loop
+unfolding holdingsRight
+loop-holds c = (c .before .before .before .pre .0, omega arith, refl)
+
+-- src/rolling.rt:87:32
+mul-at : tie.Need-mul-at Inv-loop μ-loop
+mul-at c = search needs
+
+-- src/rolling.rt:87:18
+add-at : tie.Need-add-at Inv-loop μ-loop
+add-at c = search needs
+
+-- src/rolling.rt:88:37
+add-holding-fits : tie.Need-add-holding-fits Inv-loop μ-loop
+add-holding-fits c = search needs
+
+-- src/rolling.rt:88:26
+mul-holding-fits : tie.Need-mul-holding-fits Inv-loop μ-loop
+mul-holding-fits c = search needs
+
+-- src/rolling.rt:88:26
+sub-holding-fits : tie.Need-sub-holding-fits Inv-loop μ-loop
+sub-holding-fits c = search needs
+
+-- src/rolling.rt:88:26
+part-holding-fits-start : tie.Need-part-holding-fits-start Inv-loop μ-loop
+part-holding-fits-start c = search needs
+
+-- src/rolling.rt:88:26
+part-holding-fits-end : tie.Need-part-holding-fits-end Inv-loop μ-loop
+part-holding-fits-end c = search needs
+
+-- src/rolling.rt:88:13
+holding-fits-requires : tie.Need-holding-fits-requires Inv-loop μ-loop
+holding-fits-requires c κs = let p = c .before .before .before .before .before .before .pre in
+    let a = c .before .before .loop .a in
+    subst HoldingRanges (sym (lent-holding _ a)) (holding-ranges _ (p .0) (p .1) a (omega arith))
+
+-- src/rolling.rt:89:13
+returns-2 : tie.Need-returns-2 Inv-loop μ-loop
+returns-2 c = let p = c .before .before .before .before .before .before .before .before .pre in
+    let a = c .before .before .before .before .loop .a in
+    sym (holding-out _ (p .0) (p .1) a (omega arith) (fits (lent-holding _ a) ∙ taken (c .before .holding-fits .ensures) (c .if2 .taken)))
+
+-- src/rolling.rt:91:9
+add-a : tie.Need-add-a Inv-loop μ-loop
+add-a c = search needs
+
+-- src/rolling.rt:86:5
+loop-less : tie.Need-loop-less Inv-loop μ-loop
+loop-less c = search needs
+
+-- src/rolling.rt:86:5
+loop-again : tie.Need-loop-again Inv-loop μ-loop
+loop-again c = let p = c .before .before .before .before .before .before .before .before .pre in
+    let l = c .before .before .before .before .loop in
+    (p .0, omega arith, holding-next _ (p .0) (p .1) (l .a) (omega arith) (l .inv .2) (fits (lent-holding _ (l .a)) ∙ left (c .before .holding-fits .ensures) (c .if2 .left)))
+
+-- src/rolling.rt:78:1
+returns-3 : tie.Need-returns-3 Inv-loop μ-loop
+unfolding part
+returns-3 c = let p = c .before .before .before .before .before .pre in
+    let l = c .before .loop in
+    let e : l .a ≡ 16 = omega arith in
+    sym (all-fit _ (p .0) (p .1) (left (c .before .before .before .rubles-fit .ensures) (c .before .before .if1 .left)) (ap (holdingsRight (rolled _)) (sym e) ∙ l .inv .2))
+
+pub roll-fits-spec : {M : Type 1} → statement M
+roll-fits-spec =
+    tie.close
+    (tie.spec
+    Inv-loop
+    μ-loop
+    sub-rubles-fit
+    part-rubles-fit-start
+    part-rubles-fit-end
+    rubles-fit-requires
+    returns
+    loop-holds
+    mul-at
+    add-at
+    add-holding-fits
+    mul-holding-fits
+    sub-holding-fits
+    part-holding-fits-start
+    part-holding-fits-end
+    holding-fits-requires
+    returns-2
+    add-a
+    loop-less
+    loop-again
+    returns-3)

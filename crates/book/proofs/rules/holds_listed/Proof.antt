@@ -1,0 +1,104 @@
+-- `rules::holds_listed` meets its contract. The loop's invariant: before asset a, nothing is held of an unlisted one. Assumes nothing.
+use mathlib.Core.Path.{_≡_, refl, sym, ap, _∙_}
+use mathlib.Core.Logic.{⊎-elim}
+use mathlib.Core.Bool.{true}
+use Prim.Native.Nat.{_-_, _≤_}
+use native.Mathlib.Omega.{arith}
+use lib.ListN.{length}
+use borrow.Author.Needs.{needs}
+use Rattle.whole.proofs.Tests.{left, taken}
+use Rattle.book.specs.Rules.{allZero, holdsListed}
+use Rattle.book.proofs.Blocks.{lent-holding}
+use Rattle.book.proofs.Holdings.{listed-out, listed-next, empty-next}
+use Rattle.book.proofs.rules.holds_listed.Statement.{statement}
+use Rattle.book.proofs.rules.holds_listed.Tie as tie
+use Rattle.book.proofs.rules.holds_listed.Reads as reads
+use Rattle.book.proofs.rules.holds_listed.Lts as lts
+use Rattle.book.proofs.rules.is_empty.Reads as is-empty-reads
+use Rattle.rates.proofs.is_listed.Reads as is-listed-reads
+
+abbrev Inv-loop : tie.InvT-loop
+Inv-loop block clearing a₀ a = (length block ≡ 288) × (a ≤ 16) × (holdsListed block clearing a ≡ true)
+
+abbrev μ-loop : tie.MeasureT-loop
+μ-loop block clearing a₀ a = 16 - a
+
+loop-holds : tie.Need-loop-holds Inv-loop μ-loop
+unfolding holdsListed
+loop-holds c = (c .pre, omega arith, refl)
+
+mul-at : tie.Need-mul-at Inv-loop μ-loop
+mul-at c = search needs
+
+add-at : tie.Need-add-at Inv-loop μ-loop
+add-at c = search needs
+
+is-listed-requires : tie.Need-is-listed-requires Inv-loop μ-loop
+is-listed-requires c κs = search needs
+
+add-is-empty : tie.Need-add-is-empty Inv-loop μ-loop
+add-is-empty c = search needs
+
+mul-is-empty : tie.Need-mul-is-empty Inv-loop μ-loop
+mul-is-empty c = search needs
+
+sub-is-empty : tie.Need-sub-is-empty Inv-loop μ-loop
+sub-is-empty c = search needs
+
+part-is-empty-start : tie.Need-part-is-empty-start Inv-loop μ-loop
+part-is-empty-start c = search needs
+
+part-is-empty-end : tie.Need-part-is-empty-end Inv-loop μ-loop
+part-is-empty-end c = search needs
+
+is-empty-requires : tie.Need-is-empty-requires Inv-loop μ-loop
+is-empty-requires c κs = search needs
+
+returns : tie.Need-returns Inv-loop μ-loop
+returns c =
+    let u = c .before .before .before in
+    let l = u .before .before .before .loop in
+    sym (listed-out _ _ 16 (l .a) (omega arith) (taken (u .before .is-listed .ensures) (u .if1 .taken))
+    (ap allZero (sym (lent-holding _ (l .a))) ∙ taken (c .before .is-empty .ensures) (c .if2 .taken)))
+
+add-a : tie.Need-add-a Inv-loop μ-loop
+add-a c = search needs
+
+loop-less : tie.Need-loop-less Inv-loop μ-loop
+loop-less c = search needs
+
+loop-again : tie.Need-loop-again Inv-loop μ-loop
+loop-again c =
+    let l = c .before .before .before .loop in (
+      l .inv .0,
+      omega arith,
+      ⊎-elim
+          (λ w. empty-next _ _ (l .a) (l .inv .2) (ap allZero (sym (lent-holding _ (l .a))) ∙ left (w .2 .ensures) (w .3 .left)))
+          (λ w. listed-next _ _ (l .a) (l .inv .2) (left (c .before .is-listed .ensures) (w .left)))
+          (c .if1 .came),
+    )
+
+returns-2 : tie.Need-returns-2 Inv-loop μ-loop
+returns-2 c = let l = c .before .loop in sym (l .inv .2) ∙ ap (holdsListed _ _) (let e : l .a ≡ 16 = omega arith in e)
+
+pub holds-listed-spec : {M : Type 1} → statement M
+holds-listed-spec =
+    tie.close
+    (tie.spec
+    Inv-loop
+    μ-loop
+    loop-holds
+    mul-at
+    add-at
+    is-listed-requires
+    add-is-empty
+    mul-is-empty
+    sub-is-empty
+    part-is-empty-start
+    part-is-empty-end
+    is-empty-requires
+    returns
+    add-a
+    loop-less
+    loop-again
+    returns-2)

@@ -1,0 +1,6 @@
+-- What the contracts of `book` cite: where an account's numbers stand, the block rules, and what a call leaves in a block.
+pub mod Block
+pub mod Rules
+pub mod Changes
+pub mod Roll
+pub mod Ranges
