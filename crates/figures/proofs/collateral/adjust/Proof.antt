@@ -1,0 +1,81 @@
+-- `collateral::adjust` meets its contract, regime by regime. Assumes nothing.
+use mathlib.Core.Path.{_≡_, refl, subst}
+use lib.IntN.{pos}
+use mir.Facts.{toZ-ofZ}
+use borrow.Author.Needs.{needs}
+use Rattle.whole.specs.Numbers.{minℤ}
+use Rattle.whole.specs.Bounds.{_upto_}
+use Rattle.whole.proofs.Rules.{ints}
+use Rattle.figures.specs.Ranges.{ShareRange}
+use Rattle.figures.proofs.collateral.adjust.Statement.{statement}
+use Rattle.figures.proofs.collateral.adjust.Tie as tie
+
+negative : (c : tie.After-lesser) → c .lesser .result ≡ minℤ (pos 0) (c .before .before .before .args .held)
+negative c = rw (toZ-ofZ (c .before .before .before .fits .held)) at (c .lesser .ensures .0)
+
+share-partial : (c : tie.After-known-told) → c .before .regime .given .0 .0 upto 10000
+share-partial c = subst ShareRange (c .before .regime .given .1) (c .before .before .before .pre .0)
+
+share-accepted : (c : tie.After-known-told2) → c .before .regime2 .given .0 .0 upto 10000
+share-accepted c = subst ShareRange (c .before .regime2 .given .1) (c .before .before .before .pre .0)
+
+enum-told : tie.Need-enum-told
+enum-told c = search needs
+
+enum-told-2 : tie.Need-enum-told-2
+enum-told-2 c = search needs
+
+lesser-requires : tie.Need-lesser-requires
+lesser-requires c κs = search needs
+
+enum-known-regime : tie.Need-enum-known-regime
+enum-known-regime c = search needs
+
+counted-of-requires : tie.Need-counted-of-requires
+counted-of-requires c κs =
+    let s = c .before .before .before in
+    rw (toZ-ofZ (share-partial c .fits), toZ-ofZ (s .fits .held), toZ-ofZ (s .fits .net)) (share-partial c, s .pre .1, s .pre .2)
+
+enum-known-regime-2 : tie.Need-enum-known-regime-2
+enum-known-regime-2 c = search needs
+
+counted-of-requires-2 : tie.Need-counted-of-requires-2
+counted-of-requires-2 c κs =
+    let s = c .before .before .before in
+    rw (toZ-ofZ (share-accepted c .fits), toZ-ofZ (s .fits .held), toZ-ofZ (s .fits .net)) (share-accepted c, s .pre .1, s .pre .2)
+
+returns : tie.Need-returns
+returns c = (rw (c .enum-told .given .1) refl, omega ints)
+
+returns-2 : tie.Need-returns-2
+returns-2 c =
+    let e = negative c in let h = c .before .before .before .pre .1 in
+    rw (toZ-ofZ (c .lesser .ensures .1), c .before .enum-told2 .given .1) (e, omega ints)
+
+returns-3 : tie.Need-returns-3
+returns-3 c =
+    let s = c .before .before .before .before in let r = c .counted-of .ensures in
+    rw (toZ-ofZ (r .1 .fits), c .before .before .regime .given .1)
+    (rw (toZ-ofZ (share-partial (c .before) .fits), toZ-ofZ (s .fits .held), toZ-ofZ (s .fits .net)) at (r .0), r .1)
+
+returns-4 : tie.Need-returns-4
+returns-4 c =
+    let s = c .before .before .before .before in let r = c .counted-of2 .ensures in
+    rw (toZ-ofZ (r .1 .fits), c .before .before .regime2 .given .1)
+    (rw (toZ-ofZ (share-accepted (c .before) .fits), toZ-ofZ (s .fits .held), toZ-ofZ (s .fits .net)) at (r .0), r .1)
+
+pub adjust-spec : {M : Type 1} → statement M
+adjust-spec =
+    tie.close
+    (tie.spec
+    enum-told
+    enum-told-2
+    lesser-requires
+    enum-known-regime
+    counted-of-requires
+    enum-known-regime-2
+    counted-of-requires-2
+    returns
+    returns-2
+    returns-3
+    returns-4)

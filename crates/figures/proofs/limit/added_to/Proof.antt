@@ -1,0 +1,46 @@
+-- `figures::limit::added_to` meets its contract: one sum of two numbers in range is stored. Assumes nothing.
+use mathlib.Core.Path.{ap}
+use native.Mathlib.Omega.{arith}
+use lib.ListN.{set}
+use borrow.Author.Needs.{needs}
+use Rattle.whole.specs.Parts.{number}
+use Rattle.whole.proofs.Expressions.{Expression, var, _⊕_}
+use Rattle.whole.proofs.Machine.{Runs, need!, runs}
+use Rattle.whole.proofs.Bounds.{upto-within}
+use Rattle.figures.specs.Limit.{addedTo}
+use Rattle.figures.proofs.Upto.{sum-runs}
+use Rattle.figures.proofs.limit.added_to.Statement.{statement}
+use Rattle.figures.proofs.limit.added_to.Tie as tie
+
+-- what is stored
+abbrev stored : tie.Start → Expression
+stored c = var (number (c .args .risks) (c .args .g)) ⊕ var (c .args .x)
+
+ok : (c : tie.Start) → Runs (stored c)
+ok c = sum-runs (upto-within (c .pre .0 .each (c .args .g) (c .pre .1))) (upto-within (c .pre .2)) (omega arith)
+
+mul-sums : tie.Need-mul-sums
+mul-sums c = search needs
+
+array-copy-out-sums : tie.Need-array-copy-out-sums
+array-copy-out-sums c = search needs
+
+add-sums : tie.Need-add-sums
+add-sums c = need! (stored (c .before)) (ok (c .before))
+
+mul-sums-2 : tie.Need-mul-sums-2
+mul-sums-2 c = search needs
+
+array-set-from-sums : tie.Need-array-set-from-sums
+array-set-from-sums c = search needs
+
+returns : tie.Need-returns
+unfolding addedTo
+returns c =
+    let s = c .before in
+    ap (set (s .args .risks) (s .args .g)) (runs (stored s) (ok s))
+
+pub added-to-spec : {M : Type 1} → statement M
+added-to-spec =
+    tie.close
+    (tie.spec mul-sums array-copy-out-sums add-sums mul-sums-2 array-set-from-sums returns)

@@ -1,0 +1,31 @@
+-- `figures::limit::block_figures` meets its contract: the figures of the sums over the assets, the groups and the rubles. Assumes nothing.
+use mathlib.Core.Path.{_∙_}
+use mir.Facts.{toZ-ofZ}
+use borrow.Author.Needs.{needs}
+use denote.Ref.{now}
+use Rattle.whole.proofs.Rules.{ints}
+use Rattle.figures.specs.Limit.{figuresOf, blockFigures}
+use Rattle.figures.proofs.Discount.{percent-ranges}
+use Rattle.figures.proofs.limit.block_figures.Statement.{statement}
+use Rattle.figures.proofs.limit.block_figures.Tie as tie
+
+totals-of-requires : tie.Need-totals-of-requires
+totals-of-requires c κs = search needs
+
+rubles-of-requires : tie.Need-rubles-of-requires
+rubles-of-requires c κs = search needs
+
+figures-of-requires : tie.Need-figures-of-requires
+figures-of-requires c κs = (c .before .totals-of .ensures .1, percent-ranges (c .before .before .pre .1), let h = c .rubles-of .ensures .1 in omega ints)
+
+returns : tie.Need-returns
+unfolding blockFigures
+returns c =
+    let totals = c .before .before .totals-of .ensures .0 in
+    let r = c .before .rubles-of .ensures in
+    let rubles = toZ-ofZ (r .1 .fits) ∙ r .0 in
+    c .figures-of .ensures ∙ (λ i. figuresOf (totals i) (now (c .before .before .before .args .groups)) (rubles i))
+
+pub block-figures-spec : {M : Type 1} → statement M
+block-figures-spec =
+    tie.close (tie.spec totals-of-requires rubles-of-requires figures-of-requires returns)

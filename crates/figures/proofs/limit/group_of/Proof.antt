@@ -1,0 +1,29 @@
+-- `figures::limit::group_of` meets its contract: the number of the group, from 0 to 8, as an index. Assumes nothing.
+use mathlib.Core.Path.{ap}
+use lib.IntN.{natAbs}
+use mir.Facts.{toZ-ofZ}
+use borrow.Author.Needs.{needs}
+use denote.Ref.{now}
+use Rattle.whole.proofs.PlusMinus.{abs-is, one-is-zero}
+use Rattle.whole.proofs.Machine.{back}
+use Rattle.whole.proofs.Rules.{ints}
+use Rattle.rates.specs.Row.{spreadGroup}
+use Rattle.figures.specs.Limit.{groupOf}
+use Rattle.figures.proofs.limit.group_of.Statement.{statement}
+use Rattle.figures.proofs.limit.group_of.Tie as tie
+
+shared-slice-copy-out-result : tie.Need-shared-slice-copy-out-result
+shared-slice-copy-out-result c = search needs
+
+cast-result : tie.Need-cast-result
+cast-result c = let h = c .before .pre .group-upto in omega ints
+
+returns : tie.Need-returns
+unfolding groupOf
+returns c =
+    let h = c .before .pre .group-upto in
+    let group = back (spreadGroup (now (c .before .args .row))) in
+    (ap natAbs (toZ-ofZ (h .fits)), omega (ints, abs-is group, one-is-zero group))
+
+pub group-of-spec : {M : Type 1} → statement M
+group-of-spec = tie.close (tie.spec shared-slice-copy-out-result cast-result returns)

@@ -1,0 +1,63 @@
+-- `record::left_out` meets its contract: the two tests are the definition's. Assumes nothing.
+use mathlib.Core.Path.{_≡_, refl}
+use mathlib.Core.Bool.{true, false}
+use lib.IntN.{pos}
+use mir.Facts.{toZ-ofZ}
+use denote.Ref.{now}
+use borrow.Author.Needs.{needs}
+use Rattle.whole.specs.Bounds.{equal}
+use Rattle.whole.proofs.Tests.{left, taken}
+use Rattle.rates.specs.Row.{kind}
+use Rattle.figures.specs.Collateral.{shareInForce}
+use Rattle.figures.specs.Asset.{leftOut}
+use Rattle.figures.proofs.record.left_out.Statement.{statement}
+use Rattle.figures.proofs.record.left_out.Tie as tie
+
+other-kind : (c : tie.Then1) → equal (kind (now (c .before .before .args .row))) (pos 2) ≡ false
+other-kind c = taken (c .before .number-between .ensures) (c .if1 .taken)
+
+currency : (c : tie.Else1) → equal (kind (now (c .before .before .args .row))) (pos 2) ≡ true
+currency c = left (c .before .number-between .ensures) (c .if1 .left)
+
+asked : (c : tie.After-lies-between) → let s = c .before .before .before .before in
+    c .lies-between .result ≡ equal (shareInForce (s .args .account) (now (s .args .row))) (pos 0)
+asked c =
+    let h = c .before .share-in-force .ensures in rw (toZ-ofZ (h .1 .fits), h .0) at (c .lies-between .ensures)
+
+number-between-requires : tie.Need-number-between-requires
+number-between-requires c κs = search needs
+
+returns : tie.Need-returns
+unfolding leftOut
+returns c = (rw (other-kind c) refl, search needs)
+
+share-in-force-requires : tie.Need-share-in-force-requires
+share-in-force-requires c κs = search needs
+
+lies-between-requires : tie.Need-lies-between-requires
+lies-between-requires c κs = search needs
+
+returns-2 : tie.Need-returns-2
+unfolding leftOut
+returns-2 c = (rw (currency (c .before .before .before), taken (asked (c .before)) (c .if2 .taken)) refl, search needs)
+
+shared-slice-copy-out-result : tie.Need-shared-slice-copy-out-result
+shared-slice-copy-out-result c = search needs
+
+returns-3 : tie.Need-returns-3
+unfolding leftOut
+returns-3 c =
+    let e = c .before in let h = e .before .before .before .before .before .pre .1 .claim-upto 0 (search needs) in
+    rw (toZ-ofZ (h .fits), currency (e .before .before .before), left (asked (e .before)) (e .if2 .left)) (refl, h)
+
+pub left-out-spec : {M : Type 1} → statement M
+left-out-spec =
+    tie.close
+    (tie.spec
+    number-between-requires
+    returns
+    share-in-force-requires
+    lies-between-requires
+    returns-2
+    shared-slice-copy-out-result
+    returns-3)

@@ -1,0 +1,51 @@
+-- `record::net_of` meets its contract: claims and obligations are from 0 to a million. Assumes nothing.
+use mathlib.Core.Path.{refl}
+use mir.Facts.{toZ-ofZ}
+use borrow.Author.Needs.{needs}
+use Rattle.figures.specs.Asset.{net}
+use Rattle.figures.proofs.Positions.{net-within}
+use Rattle.figures.proofs.record.net_of.Statement.{statement}
+use Rattle.figures.proofs.record.net_of.Tie as tie
+
+add-result : tie.Need-add-result
+add-result c = search needs
+
+mul-result : tie.Need-mul-result
+mul-result c = search needs
+
+shared-slice-copy-out-result : tie.Need-shared-slice-copy-out-result
+shared-slice-copy-out-result c = search needs
+
+add-result-2 : tie.Need-add-result-2
+add-result-2 c = search needs
+
+mul-result-2 : tie.Need-mul-result-2
+mul-result-2 c = search needs
+
+shared-slice-copy-out-result-2 : tie.Need-shared-slice-copy-out-result-2
+shared-slice-copy-out-result-2 c = search needs
+
+sub-result : tie.Need-sub-result
+unfolding net
+sub-result c =
+    let h = c .before .before .pre in
+    rw (toZ-ofZ (h .0 .claim-upto _ (h .1) .fits), toZ-ofZ (h .0 .obligation-upto _ (h .1) .fits)) (net-within _ (h .0) _ (h .1) .fits)
+
+returns : tie.Need-returns
+unfolding net
+returns c =
+    let h = c .before .before .pre in let r = net-within _ (h .0) _ (h .1) in
+    rw (toZ-ofZ (h .0 .claim-upto _ (h .1) .fits), toZ-ofZ (h .0 .obligation-upto _ (h .1) .fits), toZ-ofZ (r .fits)) (refl, r)
+
+pub net-of-spec : {M : Type 1} → statement M
+net-of-spec =
+    tie.close
+    (tie.spec
+    add-result
+    mul-result
+    shared-slice-copy-out-result
+    add-result-2
+    mul-result-2
+    shared-slice-copy-out-result-2
+    sub-result
+    returns)

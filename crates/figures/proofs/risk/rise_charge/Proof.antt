@@ -1,0 +1,72 @@
+-- `figures::risk::rise_charge` meets its contract: the charge of n units at the widths of the date, each at most ten million.
+-- Assumes nothing.
+use mathlib.Core.Path.{_≡_, sym, _∙_, subst}
+use native.Mathlib.Omega.{arith}
+use lib.IntN.{ℤ}
+use mir.Facts.{toZ-ofZ}
+use borrow.Author.Needs.{needs}
+use denote.Ref.{now}
+use Rattle.whole.specs.Bounds.{_upto_}
+use Rattle.figures.specs.Risk.{riseCharge}
+use Rattle.figures.proofs.Upto.{upto-wider, upto-back}
+use Rattle.figures.proofs.Charge.{slope-upto}
+use Rattle.figures.proofs.Sides.{width-below, rise-slope}
+use Rattle.figures.proofs.risk.rise_charge.Statement.{statement}
+use Rattle.figures.proofs.risk.rise_charge.Tie as tie
+
+mul-mid : tie.Need-mul-mid
+mul-mid c = search needs
+
+add-mid : tie.Need-add-mid
+add-mid c = search needs
+
+add-width : tie.Need-add-width
+add-width c = search needs
+
+width-requires : tie.Need-width-requires
+width-requires c κs =
+    let long = c .pre .0 .long in
+    (omega arith, omega arith, c .pre .0 .date (c .args .d) (c .pre .1) .above)
+
+add-width-2 : tie.Need-add-width-2
+add-width-2 c = search needs
+
+width-requires-2 : tie.Need-width-requires-2
+width-requires-2 c κs =
+    let s = c .before in
+    let long = s .pre .0 .long in
+    (omega arith, omega arith, s .pre .0 .date (s .args .d) (s .pre .1) .outer-above)
+
+shared-slice-copy-out-limit : tie.Need-shared-slice-copy-out-limit
+shared-slice-copy-out-limit c = search needs
+
+charge-of-requires : tie.Need-charge-of-requires
+charge-of-requires c κs =
+    let p = c .before .before .before .pre in
+    (upto-back (c .before .before .width .ensures .1), upto-back (c .before .width2 .ensures .1), upto-back (p .0 .interest-upto), upto-back (upto-wider 64000000 (p .2) (omega arith)))
+
+returns : tie.Need-returns
+unfolding riseCharge
+returns c =
+    let s = c .before .before .before .before in
+    let p = s .pre in
+    let inner = c .before .before .before .width .ensures in
+    let outer = c .before .before .width2 .ensures in
+    let r = c .charge-of .ensures in
+    let e : c .charge-of .result ≡ riseCharge (now (s .args .row)) (s .args .d) (s .args .n) =
+    cc (r .0, toZ-ofZ (inner .1 .fits), inner .0, toZ-ofZ (outer .1 .fits), outer .0, toZ-ofZ (p .0 .interest-upto .fits), toZ-ofZ (s .fits .n)) in
+    (toZ-ofZ (r .1 .fits) ∙ e, upto-back (subst (λ (z : ℤ). z upto 80000000000000) (sym e) (slope-upto 10000000 (rise-slope _ (p .0) (s .args .d) (p .1)) (width-below _ (p .0) (s .args .d) (p .1)) (p .2) (omega arith))))
+
+pub rise-charge-spec : {M : Type 1} → statement M
+rise-charge-spec =
+    tie.close
+    (tie.spec
+    mul-mid
+    add-mid
+    add-width
+    width-requires
+    add-width-2
+    width-requires-2
+    shared-slice-copy-out-limit
+    charge-of-requires
+    returns)

@@ -1,0 +1,3 @@
+-- Theorems about the definitions of the engine, for a reader to check first.
+pub mod Sums
+pub mod Wrong
