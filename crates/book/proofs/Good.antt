@@ -95,7 +95,15 @@ module _ (block : List ℤ) (long : length block ≡ 288) (good : goodBlock bloc
 module _ (block other : List ℤ) (same : (k : ℕ) → InHead k → number other k ≡ number block k) where
   head-same : headMarks other ≡ headMarks block
   unfolding headMarks
-  head-same = simp (same 0 (inl refl), in-head 10 (omega arith), in-head 11 (omega arith), in-head 12 (omega arith), in-head 13 (omega arith), in-head 14 (omega arith), in-head 15 (omega arith))
+  head-same = simp (
+    same 0 (inl refl),
+    in-head 10 (omega arith),
+    in-head 11 (omega arith),
+    in-head 12 (omega arith),
+    in-head 13 (omega arith),
+    in-head 14 (omega arith),
+    in-head 15 (omega arith),
+  )
     where
       in-head : (k : ℕ) → (10 ≤ k) × (k < 16) → number other k ≡ number block k
       in-head k h = same k (inr h)

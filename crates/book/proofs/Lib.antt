@@ -9,6 +9,7 @@ pub mod Good
 pub mod Changed
 pub mod Trades
 pub mod Moves
+pub mod Opened
 pub mod Traded
 pub mod Moved
 pub mod Codes

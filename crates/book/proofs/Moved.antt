@@ -1,5 +1,5 @@
--- What a move and an opening leave, for callers: a move taken back leaves nothing, it changes one number, and a good block in bounds after it is
--- good; an empty block that is opened is good. Assumes nothing.
+-- What a move leaves, for callers: taken back it leaves nothing, it changes one number, and a good block in bounds after it is good.
+-- Assumes nothing.
 use mathlib.Core.Path.{_≡_, sym, subst}
 use mathlib.Core.Logic.{_⊎_, inl, inr, ⊎-elim, _≢_}
 use mathlib.Core.Bool.{true, false}
@@ -7,14 +7,14 @@ use mathlib.Core.List.{List}
 use Prim.Native.Nat.{ℕ, _+_, _*_, _≤_, _<_}
 use native.Mathlib.Omega.{arith}
 use lib.IntN.{ℤ, negℤ, _+ℤ_}
-use lib.ListN.{length, set, length-set}
+use lib.ListN.{length, set}
 use Rattle.whole.specs.Bounds.{isZero}
 use Rattle.whole.specs.Parts.{number}
 use Rattle.whole.proofs.Numbers.{lt-or-ge}
 use Rattle.rates.specs.Tables.{listed}
 use Rattle.book.specs.Block.{accountKind, moveAt, rubleNumbers, holdingOf, collateral}
 use Rattle.book.specs.Rules.{inBounds, goodBlock, holdsListed}
-use Rattle.book.specs.Changes.{opened, added, moved}
+use Rattle.book.specs.Changes.{added, moved}
 use Rattle.book.specs.Ranges.{MoveAsset}
 use Rattle.book.proofs.Blocks.{InHead}
 use Rattle.book.proofs.Changed.{added-length, number-beside, added-back, part-added, part-beside}
@@ -73,9 +73,3 @@ module _ (block : List ℤ) (asset : ℕ) (amount : ℤ) where
   pub moved-rubles : asset ≡ 255 → rubleNumbers (moved block asset amount) ≡ set (rubleNumbers block) 0 (number (rubleNumbers block) 0 +ℤ amount)
   unfolding moved added
   moved-rubles e = part-added block (moveAt asset) amount 1 9 0 (omega arith) (at-rubles e)
-
--- ---- a block that is opened
-module _ (block : List ℤ) (kind : ℤ) where
-  pub opened-length : length (opened block kind) ≡ length block
-  unfolding opened
-  opened-length = length-set block 0 kind

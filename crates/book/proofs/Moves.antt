@@ -41,23 +41,19 @@ unfolding between
 below-zero (pos n) high e = absurd (omega (arith, ltb-true n 0 e))
 below-zero (negsuc n) high e = refl
 
+or-true : (a : Bool) → true ≡ a || true
+or-true true = refl
+or-true false = refl
+
+or-false : (a : Bool) → a ≡ a || false
+or-false true = refl
+or-false false = refl
+
 one-test : (withdrawal : Bool) (low z high : ℤ) → low ≤ℤ pos 0
     → not (between (cond withdrawal (pos 0) low) z high) ≡ not (between low z high) || (withdrawal && ltZ z (pos 0))
 one-test false low z high h = or-false (not (between low z high))
-  where
-    or-false : (a : Bool) → a ≡ a || false
-    or-false true = refl
-    or-false false = refl
 one-test true low z high h = pick (ltZ z (pos 0)) refl
   where
-    or-true : (a : Bool) → true ≡ a || true
-    or-true true = refl
-    or-true false = refl
-
-    or-false : (a : Bool) → a ≡ a || false
-    or-false true = refl
-    or-false false = refl
-
     pick : (b : Bool) → ltZ z (pos 0) ≡ b → not (between (pos 0) z high) ≡ not (between low z high) || b
     pick true e = ap not (below-zero z high e) ∙ or-true (not (between low z high))
     pick false e =

@@ -1,6 +1,7 @@
 -- Laws of the roll, stretch by stretch: what a block holds after it. Assumes nothing.
 use mathlib.Core.Path.{_≡_, sym, ap, ap₂, _∙_}
 use mathlib.Core.Logic.{_⊎_, inl, inr, ⊎-elim}
+use mathlib.Core.Bool.{true, false}
 use mathlib.Core.List.{List, _++_}
 use Prim.Native.Nat.{ℕ, zero, suc, _+_, _*_, _-_, _≤_, _<_}
 use native.Mathlib.Nat.{eq-or-lt-of-le, add-zero}
@@ -8,12 +9,15 @@ use native.Mathlib.Numerals.{add-one}
 use native.Mathlib.Omega.{arith}
 use lib.IntN.{ℤ, pos}
 use lib.ListN.{length, take, drop, length-append}
+use Rattle.whole.specs.Bounds.{isZero}
 use Rattle.whole.specs.Parts.{part, put, number}
 use Rattle.whole.proofs.Parts.{part-at, part-length, part-put, part-put-other, put-length}
-use Rattle.book.specs.Block.{rubleNumbers, holdingOf}
+use Rattle.book.specs.Block.{accountKind, rubleNumbers, holdingOf}
+use Rattle.book.specs.Rules.{inBounds, goodBlock}
 use Rattle.book.specs.Roll.{dayLater, rolledRubles, rolledHolding, rolledTo, rolled}
 use Rattle.whole.proofs.Lists.{back-put}
 use Rattle.book.proofs.Blocks.{InHead, rubles-length, holding-length, lent-holding}
+use Rattle.book.proofs.Good.{still-good}
 use Rattle.book.proofs.DayLater.{later-length}
 
 -- ---- the stretches keep their lengths
@@ -43,7 +47,8 @@ module _ (block : List ℤ) (long : length block ≡ 288) where
       put-length (pos 0) (16 + 17 * n) 17 (rolledTo n block) (rolledHolding (holdingOf block n)) (omega arith) (seventeen n (omega arith)) ∙ e
 
   -- a stretch that is not among those rolled is as it was
-  to-beside : (n : ℕ) → n ≤ 16 → (b m : ℕ) → b + m ≤ 288 → (b + m ≤ 1) ⊎ (10 ≤ b) → (b + m ≤ 16) ⊎ (16 + 17 * n ≤ b) → part b m (rolledTo n block) ≡ part b m block
+  to-beside : (n : ℕ) → n ≤ 16 → (b m : ℕ) → b + m ≤ 288 → (b + m ≤ 1) ⊎ (10 ≤ b) → (b + m ≤ 16) ⊎ (16 + 17 * n ≤ b)
+      → part b m (rolledTo n block) ≡ part b m block
   unfolding rolledTo
   to-beside zero l b m h p q =
       part-put-other (pos 0) 1 9 block (rolledRubles (rubleNumbers block)) (omega arith) nine b m (omega arith) p
@@ -114,3 +119,6 @@ module _ (block : List ℤ) (long : length block ≡ 288) where
     where
       alone : (xs : List ℤ) (k : ℕ) → number (part k 1 xs) 0 ≡ number xs k
       alone xs k = part-at (pos 0) k 1 xs 0 (omega arith) ∙ ap (number xs) (add-zero k)
+
+  pub rolled-good : isZero (accountKind block) ≡ false → goodBlock block ≡ true → inBounds (rolled block) ≡ true → goodBlock (rolled block) ≡ true
+  rolled-good = still-good block (rolled block) rolled-head

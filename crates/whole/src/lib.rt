@@ -49,7 +49,7 @@ pub fn size(x: i64) -> i64
     if x < 0 { -x } else { x }
 }
 
-// x / by rounded down, for x from 0 up.
+// The quotient of a number from 0 up, rounded down.
 pub fn divided_down(x: i64, by: i64) -> i64
     requires { ⌜ (pos 0 ≤ℤ x) × (pos 1 ≤ℤ by) ⌝ }
     ensures { λ r. ⌜ (r ≡ dividedDown x (natAbs by)) × SFits w64 r ⌝ }
@@ -57,7 +57,7 @@ pub fn divided_down(x: i64, by: i64) -> i64
     x / by
 }
 
-// x / by rounded up, for x from 0 up.
+// The quotient of a number from 0 up, rounded up.
 pub fn divided_up(x: i64, by: i64) -> i64
     requires { ⌜ (pos 0 ≤ℤ x) × (pos 1 ≤ℤ by) × (natAbs x + natAbs by < 2 ^ 63) ⌝ }
     ensures { λ r. ⌜ (r ≡ dividedUp x (natAbs by)) × SFits w64 r ⌝ }

@@ -7,8 +7,6 @@ use Rattle.book.specs.Changes.{added}
 use Rattle.book.proofs.Amounts.{sum-fits, summed}
 use Rattle.book.proofs.changes.add.Statement.{statement}
 use Rattle.book.proofs.changes.add.Tie as tie
-use Rattle.book.proofs.changes.add.Reads as reads
-use Rattle.book.proofs.changes.add.Lts as lts
 
 mul-block : tie.Need-mul-block
 mul-block c = search needs

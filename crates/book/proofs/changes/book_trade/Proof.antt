@@ -13,15 +13,11 @@ use Rattle.whole.proofs.Tests.{left, taken}
 use Rattle.book.specs.Rules.{rublesRight, quantityRight}
 use Rattle.book.specs.Changes.{added, moneyOf, traded, tradeCode}
 use Rattle.book.proofs.Amounts.{large}
-use Rattle.book.proofs.Trades.{quantityAt, netAt, quantityAfter, netAfter, quantity-inside, net-inside, quantity-before, net-before, quantity-out, net-out, trade-fits, net-inside-then, net-then}
+use Rattle.book.proofs.Trades.{quantityAt, netAt, quantityAfter, netAfter, quantity-inside, net-inside, quantity-before, net-before, net-inside-then, net-then}
+use Rattle.book.proofs.Trades.{quantity-out, net-out, trade-fits}
 use Rattle.book.proofs.Codes.{turned-away, let-through}
 use Rattle.book.proofs.changes.book_trade.Statement.{statement}
 use Rattle.book.proofs.changes.book_trade.Tie as tie
-use Rattle.book.proofs.changes.book_trade.Reads as reads
-use Rattle.book.proofs.changes.book_trade.Lts as lts
-use Rattle.book.proofs.changes.add.Reads as add-reads
-use Rattle.book.proofs.changes.fits_after.Reads as fits-after-reads
-use Rattle.book.proofs.changes.money_of.Reads as money-of-reads
 
 mul-at : tie.Need-mul-at
 mul-at c = search needs
@@ -58,57 +54,81 @@ money-size : (c : tie.After-money-of) → back (c .money-of .result) within larg
 money-size c = subst (λ (z : ℤ). z within large) (sym (toZ-ofZ (c .money-of .ensures .1 .fits))) (c .money-of .ensures .1)
 
 -- what the two tests say of the numbers after the trade
-quantity-tested : (c : tie.After-fits-after) → let s = c .before .before .before .before .before .before .before .before in c .fits-after .result ≡ quantityRight (quantityAfter (s .args .block .now) (s .args .t))
-quantity-tested c = let s = c .before .before .before .before .before .before .before .before in
+quantity-tested : (c : tie.After-fits-after) → let s = c .before .before .before .before .before .before .before .before in
+    c .fits-after .result ≡ quantityRight (quantityAfter (s .args .block .now) (s .args .t))
+quantity-tested c =
+    let s = c .before .before .before .before .before .before .before .before in
     c .fits-after .ensures ∙ ap (λ (z : ℤ). quantityRight (number (s .args .block .now) (quantityAt (s .args .t)) +ℤ z)) (quantity-back s)
 
-net-tested : (c : tie.After-fits-after2) → let s = c .before .before .before .before .before .before .before .before .before .before .before in c .fits-after2 .result ≡ rublesRight (netAfter (s .args .block .now) (s .args .t))
-net-tested c = let s = c .before .before .before .before .before .before .before .before .before .before .before in
-    c .fits-after2 .ensures ∙ ap (λ (z : ℤ). rublesRight (number (s .args .block .now) (netAt (s .args .t)) +ℤ z)) (money-back (c .before .before .before .before .before .before))
+net-tested : (c : tie.After-fits-after2) → let s = c .before .before .before .before .before .before .before .before .before .before .before in
+    c .fits-after2 .result ≡ rublesRight (netAfter (s .args .block .now) (s .args .t))
+net-tested c =
+    let m = c .before .before .before .before .before .before in
+    let s = m .before .before .before .before .before in
+    c .fits-after2 .ensures ∙ ap (λ (z : ℤ). rublesRight (number (s .args .block .now) (netAt (s .args .t)) +ℤ z)) (money-back m)
 
 fits-after-requires : tie.Need-fits-after-requires
-fits-after-requires c κs = let s = c .before .before .before .before .before .before .before in (quantity-inside _ (s .pre .2) (s .args .block .now) (s .pre .0), quantity-before _ _ (s .pre), quantity-within s)
+fits-after-requires c κs =
+    let s = c .before .before .before .before .before .before .before in
+    (quantity-inside _ (s .pre .2) (s .args .block .now) (s .pre .0), quantity-before _ _ (s .pre), quantity-within s)
 
 same-length : tie.Need-same-length
 same-length c = search needs
 
 returns : tie.Need-returns
 unfolding tradeCode
-returns c = let s = c .before .before .before .before .before .before .before .before .before in
-    turned-away (traded (s .args .block .now) (s .args .t)) (s .args .block .now) (quantity-out _ _ (s .pre) (taken (quantity-tested (c .before)) (c .if1 .taken)))
+returns c =
+    let s = c .before .before .before .before .before .before .before .before .before in
+    turned-away (traded (s .args .block .now) (s .args .t)) (s .args .block .now)
+    (quantity-out _ _ (s .pre) (taken (quantity-tested (c .before)) (c .if1 .taken)))
 
 sub-fits-after : tie.Need-sub-fits-after
 sub-fits-after c = search needs
 
 fits-after-requires-2 : tie.Need-fits-after-requires-2
-fits-after-requires-2 c κs = let s = c .before .before .before .before .before .before .before .before .before .before in (net-inside _ (s .pre .2) (s .args .block .now) (s .pre .0), net-before _ _ (s .pre), money-size (c .before .before .before .before .before))
+fits-after-requires-2 c κs =
+    let m = c .before .before .before .before .before in
+    let s = m .before .before .before .before .before in
+    (net-inside _ (s .pre .2) (s .args .block .now) (s .pre .0), net-before _ _ (s .pre), money-size m)
 
 same-length-2 : tie.Need-same-length-2
 same-length-2 c = search needs
 
 returns-2 : tie.Need-returns-2
 unfolding tradeCode
-returns-2 c = let s = c .before .before .before .before .before .before .before .before .before .before .before .before in
-    turned-away (traded (s .args .block .now) (s .args .t)) (s .args .block .now) (net-out _ _ (s .pre) (taken (net-tested (c .before)) (c .if2 .taken)))
+returns-2 c =
+    let s = c .before .before .before .before .before .before .before .before .before .before .before .before in
+    turned-away (traded (s .args .block .now) (s .args .t)) (s .args .block .now)
+    (net-out _ _ (s .pre) (taken (net-tested (c .before)) (c .if2 .taken)))
 
 add-requires : tie.Need-add-requires
-add-requires c κs = let s = c .before .before .before .before .before .before .before .before .before .before .before .before .before .before in (quantity-inside _ (s .pre .2) (s .args .block .now) (s .pre .0), quantity-before _ _ (s .pre), quantity-within s)
+add-requires c κs =
+    let s = c .before .before .before .before .before .before .before .before .before .before .before .before .before .before in
+    (quantity-inside _ (s .pre .2) (s .args .block .now) (s .pre .0), quantity-before _ _ (s .pre), quantity-within s)
 
 add-requires-2 : tie.Need-add-requires-2
-add-requires-2 c κs = let s = c .before .before .before .before .before .before .before .before .before .before .before .before .before .before .before .before .before in
+add-requires-2 c κs =
+    let m = c .before .before .before .before .before .before .before .before .before .before .before .before in
+    let s = m .before .before .before .before .before in
     let e = c .before .before .add .ensures in
-    (rw e (net-inside-then _ _ (s .pre) _), rw e (net-then _ _ (s .pre) _), money-size (c .before .before .before .before .before .before .before .before .before .before .before .before))
+    (rw e (net-inside-then _ _ (s .pre) _), rw e (net-then _ _ (s .pre) _), money-size m)
 
 same-length-3 : tie.Need-same-length-3
 same-length-3 c = search needs
 
 returns-3 : tie.Need-returns-3
 unfolding tradeCode traded
-returns-3 c = let s = c .before .before .before .before .before .before .before .before .before .before .before .before .before .before .before .before .before .before .before in
+returns-3 c =
+    let second = c .before .before .before .before .before .before .before in
+    let first = second .before .before .before in
+    let m = first .before .before .before .before in
+    let s = m .before .before .before .before .before in
     let-through (traded (s .args .block .now) (s .args .t)) (s .args .block .now)
-    (trade-fits _ _ (s .pre) (left (quantity-tested (c .before .before .before .before .before .before .before .before .before .before .before)) (c .before .before .before .before .before .before .before .before .before .before .if1 .left)) (left (net-tested (c .before .before .before .before .before .before .before .before)) (c .before .before .before .before .before .before .before .if2 .left)))
-    (c .before .add2 .ensures ∙ ap₂ (λ (b : List ℤ) (m : ℤ). added b (netAt (s .args .t)) m)
-    (c .before .before .before .before .add .ensures ∙ ap (added (s .args .block .now) (quantityAt (s .args .t))) (quantity-back s)) (money-back (c .before .before .before .before .before .before .before .before .before .before .before .before .before .before)))
+    (trade-fits _ _ (s .pre) (left (quantity-tested (first .before)) (first .if1 .left)) (left (net-tested (second .before)) (second .if2 .left)))
+    (c .before .add2 .ensures
+    ∙ ap₂ (λ (b : List ℤ) (m : ℤ). added b (netAt (s .args .t)) m)
+    (c .before .before .before .before .add .ensures ∙ ap (added (s .args .block .now) (quantityAt (s .args .t))) (quantity-back s))
+    (money-back m))
 
 pub book-trade-spec : {M : Type 1} → statement M
 book-trade-spec =

@@ -5,9 +5,6 @@ use borrow.Author.Needs.{needs}
 use Rattle.book.proofs.Amounts.{sum-fits, summed}
 use Rattle.book.proofs.changes.fits_after.Statement.{statement}
 use Rattle.book.proofs.changes.fits_after.Tie as tie
-use Rattle.book.proofs.changes.fits_after.Reads as reads
-use Rattle.book.proofs.changes.fits_after.Lts as lts
-use Rattle.whole.proofs.lies_between.Reads as lies-between-reads
 
 mul-lies-between : tie.Need-mul-lies-between
 mul-lies-between c = search needs

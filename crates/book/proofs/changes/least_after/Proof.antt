@@ -9,8 +9,6 @@ use Rattle.book.specs.Changes.{leastAfter}
 use Rattle.book.proofs.Amounts.{large, negative-fits, negated, negative-within}
 use Rattle.book.proofs.changes.least_after.Statement.{statement}
 use Rattle.book.proofs.changes.least_after.Tie as tie
-use Rattle.book.proofs.changes.least_after.Reads as reads
-use Rattle.book.proofs.changes.least_after.Lts as lts
 
 returns : tie.Need-returns
 unfolding leastAfter

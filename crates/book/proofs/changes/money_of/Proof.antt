@@ -8,8 +8,6 @@ use Rattle.book.proofs.Amounts.{large, negative-fits, negated}
 use Rattle.book.proofs.Trades.{money-buy, money-sell, money-within}
 use Rattle.book.proofs.changes.money_of.Statement.{statement}
 use Rattle.book.proofs.changes.money_of.Tie as tie
-use Rattle.book.proofs.changes.money_of.Reads as reads
-use Rattle.book.proofs.changes.money_of.Lts as lts
 
 sub-result : tie.Need-sub-result
 sub-result c = negative-fits (upto-within (c .before .before .before .before .pre .money-upto))

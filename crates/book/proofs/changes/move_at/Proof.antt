@@ -1,6 +1,6 @@
 -- `changes::move_at` meets its contract: the number is added to where it stays from the least to the most. Assumes nothing.
 use mathlib.Core.Path.{_≡_, ap, _∙_}
-use lib.IntN.{ℤ, _+ℤ_}
+use lib.IntN.{_+ℤ_}
 use mir.Facts.{toZ-ofZ}
 use borrow.Author.Needs.{needs}
 use Rattle.whole.specs.Bounds.{between}
@@ -10,11 +10,6 @@ use Rattle.book.specs.Changes.{added, leastAfter, moveCodeAt}
 use Rattle.book.proofs.Codes.{turned-away, let-through}
 use Rattle.book.proofs.changes.move_at.Statement.{statement}
 use Rattle.book.proofs.changes.move_at.Tie as tie
-use Rattle.book.proofs.changes.move_at.Reads as reads
-use Rattle.book.proofs.changes.move_at.Lts as lts
-use Rattle.book.proofs.changes.add.Reads as add-reads
-use Rattle.book.proofs.changes.fits_after.Reads as fits-after-reads
-use Rattle.book.proofs.changes.least_after.Reads as least-after-reads
 
 least-after-requires : tie.Need-least-after-requires
 least-after-requires c κs = search needs

@@ -14,9 +14,6 @@ use Rattle.book.proofs.Amounts.{large}
 use Rattle.book.proofs.Moves.{at-rubles, at-asset, is-asset, move-code, rubles-before, collateral-before, collateral-inside, rubles-after, collateral-after}
 use Rattle.book.proofs.changes.move_collateral.Statement.{statement}
 use Rattle.book.proofs.changes.move_collateral.Tie as tie
-use Rattle.book.proofs.changes.move_collateral.Reads as reads
-use Rattle.book.proofs.changes.move_collateral.Lts as lts
-use Rattle.book.proofs.changes.move_at.Reads as move-at-reads
 
 amount-within : (c : tie.Start) → back (c .args .amount) within large
 amount-within c = subst (λ (z : ℤ). z within large) (sym (toZ-ofZ (c .fits .amount))) (c .pre .3)
@@ -25,11 +22,9 @@ move-at-requires : tie.Need-move-at-requires
 move-at-requires c κs = let s = c .before .before in
     (omega arith, rubles-before _ _ _ (s .pre), amount-within s, record { low = omega ints; high = omega ints; fits = omega ints })
 
--- src/changes.rt:119:9
 same-length : tie.Need-same-length
 same-length c = search needs
 
--- src/changes.rt:119:9
 returns : tie.Need-returns
 unfolding moved
 returns c = let s = c .before .before .before .before in
@@ -41,31 +36,31 @@ returns c = let s = c .before .before .before .before in
       m .ensures .1 ∙ ap₂ (λ (k : ℕ) (z : ℤ). leaves (m .result) (added (s .args .block .now) k z) (s .args .block .now)) (sym e) (toZ-ofZ (s .fits .amount)),
     )
 
--- src/changes.rt:121:34
 mul-move-at : tie.Need-mul-move-at
 mul-move-at c = let l = is-asset (c .before .before .pre .2) (c .before .if1 .left) in search needs
 
--- src/changes.rt:121:20
 add-move-at : tie.Need-add-move-at
 add-move-at c = let l = is-asset (c .before .before .pre .2) (c .before .if1 .left) in search needs
 
--- src/changes.rt:121:5
 move-at-requires-2 : tie.Need-move-at-requires-2
-move-at-requires-2 c κs = let s = c .before .before in
-    (collateral-inside _ _ _ (s .pre) (c .before .if1 .left), collateral-before _ _ _ (s .pre) (c .before .if1 .left), amount-within s, record { low = omega ints; high = omega ints; fits = omega ints })
+move-at-requires-2 c κs = let s = c .before .before in (
+  collateral-inside _ _ _ (s .pre) (c .before .if1 .left),
+  collateral-before _ _ _ (s .pre) (c .before .if1 .left),
+  amount-within s,
+  record { low = omega ints; high = omega ints; fits = omega ints },
+)
 
--- src/changes.rt:114:1
 same-length-2 : tie.Need-same-length-2
 same-length-2 c = search needs
 
--- src/changes.rt:114:1
 returns-2 : tie.Need-returns-2
 unfolding moved
 returns-2 c = let s = c .before .before .before .before in
     let e = at-asset (c .before .before .before .if1 .left) in
     let m = c .before .move-at2 in (
       m .ensures .0 ∙ ap₂ (λ (k : ℕ) (z : ℤ). moveCodeAt (s .args .block .now) k z (pos 1000000)) (sym e) (toZ-ofZ (s .fits .amount))
-          ∙ move-code (s .args .block .now) (s .args .asset) (s .args .amount) (pos 1000000) (omega (arith, s .pre .0, collateral-inside _ _ _ (s .pre) (c .before .before .before .if1 .left))) (omega ints)
+          ∙ move-code (s .args .block .now) (s .args .asset) (s .args .amount) (pos 1000000)
+          (omega (arith, collateral-inside _ _ _ (s .pre) (c .before .before .before .if1 .left))) (omega ints)
           (collateral-after _ _ _ (s .pre) (c .before .before .before .if1 .left)),
       m .ensures .1 ∙ ap₂ (λ (k : ℕ) (z : ℤ). leaves (m .result) (added (s .args .block .now) k z) (s .args .block .now)) (sym e) (toZ-ofZ (s .fits .amount)),
     )

@@ -7,8 +7,6 @@ use borrow.Author.Needs.{needs}
 use Rattle.book.specs.Changes.{opened}
 use Rattle.book.proofs.changes.open.Statement.{statement}
 use Rattle.book.proofs.changes.open.Tie as tie
-use Rattle.book.proofs.changes.open.Reads as reads
-use Rattle.book.proofs.changes.open.Lts as lts
 
 slice-set-from-kind : tie.Need-slice-set-from-kind
 slice-set-from-kind c = search needs

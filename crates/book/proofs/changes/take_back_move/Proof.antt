@@ -10,51 +10,38 @@ use Rattle.book.proofs.Amounts.{large, negative-fits, negated, negative
 use Rattle.book.proofs.Moves.{at-rubles, at-asset, is-asset, rubles-before, collateral-before, collateral-inside}
 use Rattle.book.proofs.changes.take_back_move.Statement.{statement}
 use Rattle.book.proofs.changes.take_back_move.Tie as tie
-use Rattle.book.proofs.changes.take_back_move.Reads as reads
-use Rattle.book.proofs.changes.take_back_move.Lts as lts
-use Rattle.book.proofs.changes.add.Reads as add-reads
 
--- src/changes.rt:130:38
 sub-add : tie.Need-sub-add
 sub-add c = negative-fits (c .before .before .pre .3)
 
--- src/changes.rt:130:9
 add-requires : tie.Need-add-requires
 add-requires c κs = let p = c .before .before .pre in
     (omega arith, rubles-before _ _ _ p, subst (λ (z : ℤ). z within large) (sym (negated (p .3))) (negative-within (p .3)))
 
--- src/changes.rt:131:9
 same-length : tie.Need-same-length
 same-length c = search needs
 
--- src/changes.rt:131:9
 returns : tie.Need-returns
 unfolding moved
 returns c = let s = c .before .before .before .before in
     c .before .add .ensures ∙ ap₂ (λ (k : ℕ) (z : ℤ). added (s .args .block .now) k z) (sym (at-rubles (c .before .before .before .if1 .taken))) (negated (s .pre .3))
 
--- src/changes.rt:133:30
 mul-add : tie.Need-mul-add
 mul-add c = let l = is-asset (c .before .before .pre .2) (c .before .if1 .left) in search needs
 
--- src/changes.rt:133:16
 add-add : tie.Need-add-add
 add-add c = let l = is-asset (c .before .before .pre .2) (c .before .if1 .left) in search needs
 
--- src/changes.rt:133:47
 sub-add-2 : tie.Need-sub-add-2
 sub-add-2 c = negative-fits (c .before .before .pre .3)
 
--- src/changes.rt:133:5
 add-requires-2 : tie.Need-add-requires-2
 add-requires-2 c κs = let p = c .before .before .pre in
     (collateral-inside _ _ _ p (c .before .if1 .left), collateral-before _ _ _ p (c .before .if1 .left), subst (λ (z : ℤ). z within large) (sym (negated (p .3))) (negative-within (p .3)))
 
--- src/changes.rt:125:1
 same-length-2 : tie.Need-same-length-2
 same-length-2 c = search needs
 
--- src/changes.rt:125:1
 returns-2 : tie.Need-returns-2
 unfolding moved
 returns-2 c = let s = c .before .before .before .before in

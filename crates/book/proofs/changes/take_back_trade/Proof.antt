@@ -12,36 +12,25 @@ use Rattle.book.proofs.Amounts.{large, negative-fits, negated, negative
 use Rattle.book.proofs.Trades.{quantityAt, netAt, quantity-inside, quantity-before, net-inside-then, net-then}
 use Rattle.book.proofs.changes.take_back_trade.Statement.{statement}
 use Rattle.book.proofs.changes.take_back_trade.Tie as tie
-use Rattle.book.proofs.changes.take_back_trade.Reads as reads
-use Rattle.book.proofs.changes.take_back_trade.Lts as lts
-use Rattle.book.proofs.changes.add.Reads as add-reads
-use Rattle.book.proofs.changes.money_of.Reads as money-of-reads
 
--- src/changes.rt:82:26
 mul-at : tie.Need-mul-at
 mul-at c = search needs
 
--- src/changes.rt:82:14
 add-at : tie.Need-add-at
 add-at c = search needs
 
--- src/changes.rt:82:46
 mul-at-2 : tie.Need-mul-at-2
 mul-at-2 c = search needs
 
--- src/changes.rt:82:14
 add-at-2 : tie.Need-add-at-2
 add-at-2 c = search needs
 
--- src/changes.rt:82:14
 add-at-3 : tie.Need-add-at-3
 add-at-3 c = search needs
 
--- src/changes.rt:83:15
 add-net : tie.Need-add-net
 add-net c = search needs
 
--- src/changes.rt:84:9
 money-of-requires : tie.Need-money-of-requires
 money-of-requires c κs = search needs
 
@@ -58,16 +47,17 @@ money-negated c = negated (c .money-of .ensures .1) ∙ ap negℤ (c .money-of .
 sub-add : tie.Need-sub-add
 sub-add c = negative-fits (quantity-size (c .before .before .before .before .before .before .before .before))
 
--- src/changes.rt:85:5
 add-requires : tie.Need-add-requires
-add-requires c κs = let s = c .before .before .before .before .before .before .before .before in
-    (quantity-inside _ (s .pre .2) (s .args .block .now) (s .pre .0), quantity-before _ _ (s .pre), subst (λ (z : ℤ). z within large) (sym (quantity-negated s)) (negative-within (quantity-size s)))
+add-requires c κs =
+    let s = c .before .before .before .before .before .before .before .before in (
+      quantity-inside _ (s .pre .2) (s .args .block .now) (s .pre .0),
+      quantity-before _ _ (s .pre),
+      subst (λ (z : ℤ). z within large) (sym (quantity-negated s)) (negative-within (quantity-size s)),
+    )
 
--- src/changes.rt:86:21
 sub-add-2 : tie.Need-sub-add-2
 sub-add-2 c = negative-fits (c .before .before .before .before .before .before .money-of .ensures .1)
 
--- src/changes.rt:86:5
 add-requires-2 : tie.Need-add-requires-2
 add-requires-2 c κs = let s = c .before .before .before .before .before .before .before .before .before .before .before in
     let m = c .before .before .before .before .before .before in
@@ -77,16 +67,18 @@ add-requires-2 c κs = let s = c .before .before .before .before .before .before
       subst (λ (z : ℤ). z within large) (sym (negated (m .money-of .ensures .1))) (negative-within (m .money-of .ensures .1)),
     )
 
--- src/changes.rt:78:1
 same-length : tie.Need-same-length
 same-length c = search needs
 
--- src/changes.rt:78:1
 returns : tie.Need-returns
 unfolding untraded
-returns c = let s = c .before .before .before .before .before .before .before .before .before .before .before .before .before in
-    c .before .add2 .ensures ∙ ap₂ (λ (b : List ℤ) (m : ℤ). added b (netAt (s .args .t)) m)
-    (c .before .before .before .before .add .ensures ∙ ap (added (s .args .block .now) (quantityAt (s .args .t))) (quantity-negated s)) (money-negated (c .before .before .before .before .before .before .before .before))
+returns c =
+    let m = c .before .before .before .before .before .before .before .before in
+    let s = m .before .before .before .before .before in
+    c .before .add2 .ensures
+    ∙ ap₂ (λ (b : List ℤ) (m : ℤ). added b (netAt (s .args .t)) m)
+    (c .before .before .before .before .add .ensures ∙ ap (added (s .args .block .now) (quantityAt (s .args .t))) (quantity-negated s))
+    (money-negated m)
 
 pub take-back-trade-spec : {M : Type 1} → statement M
 take-back-trade-spec =

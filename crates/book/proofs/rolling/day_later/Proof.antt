@@ -12,8 +12,6 @@ use Rattle.whole.specs.Parts.{number}
 use Rattle.book.proofs.DayLater.{stepped, stepped-ahead, stepped-on, stepped-end}
 use Rattle.book.proofs.rolling.day_later.Statement.{statement}
 use Rattle.book.proofs.rolling.day_later.Tie as tie
-use Rattle.book.proofs.rolling.day_later.Reads as reads
-use Rattle.book.proofs.rolling.day_later.Lts as lts
 
 abbrev Inv-loop : tie.InvT-loop
 Inv-loop numbers₀ d₀ numbers d = (length numbers₀ ≡ 8) × (length numbers ≡ 8) × (d ≤ 7) × (numbers ≡ stepped d numbers₀)

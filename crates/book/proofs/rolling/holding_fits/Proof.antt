@@ -8,39 +8,28 @@ use Rattle.book.proofs.Amounts.{sum-fits, difference-fits, differed}
 use Rattle.book.proofs.InBounds.{collateral-size, claim-size, obligation-size}
 use Rattle.book.proofs.rolling.holding_fits.Statement.{statement}
 use Rattle.book.proofs.rolling.holding_fits.Tie as tie
-use Rattle.book.proofs.rolling.holding_fits.Reads as reads
-use Rattle.book.proofs.rolling.holding_fits.Lts as lts
-use Rattle.whole.proofs.lies_between.Reads as lies-between-reads
 
--- src/rolling.rt:74:25
 sub-lies-between : tie.Need-sub-lies-between
 sub-lies-between c = search needs
 
--- src/rolling.rt:74:33
 shared-slice-copy-out-lies-between : tie.Need-shared-slice-copy-out-lies-between
 shared-slice-copy-out-lies-between c = search needs
 
--- src/rolling.rt:74:46
 shared-slice-copy-out-lies-between-2 : tie.Need-shared-slice-copy-out-lies-between-2
 shared-slice-copy-out-lies-between-2 c = search needs
 
--- src/rolling.rt:74:33
 add-lies-between : tie.Need-add-lies-between
 add-lies-between c = let h = c .before .before .pre in sum-fits (collateral-size h) (claim-size h)
 
--- src/rolling.rt:74:59
 shared-slice-copy-out-lies-between-3 : tie.Need-shared-slice-copy-out-lies-between-3
 shared-slice-copy-out-lies-between-3 c = search needs
 
--- src/rolling.rt:74:33
 sub-lies-between-2 : tie.Need-sub-lies-between-2
 sub-lies-between-2 c = let h = c .before .before .before .pre in difference-fits (collateral-size h) (claim-size h) (obligation-size h)
 
--- src/rolling.rt:74:5
 lies-between-requires : tie.Need-lies-between-requires
 lies-between-requires c κs = search needs
 
--- src/rolling.rt:70:1
 returns : tie.Need-returns
 unfolding rolledHolding
 returns c = let h = c .before .before .before .before .pre in

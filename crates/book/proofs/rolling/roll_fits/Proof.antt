@@ -17,10 +17,6 @@ use Rattle.book.proofs.InBounds.{ruble-ranges, holding-ranges}
 use Rattle.book.proofs.RollFits.{rubles-out, holding-out, holding-next, all-fit}
 use Rattle.book.proofs.rolling.roll_fits.Statement.{statement}
 use Rattle.book.proofs.rolling.roll_fits.Tie as tie
-use Rattle.book.proofs.rolling.roll_fits.Reads as reads
-use Rattle.book.proofs.rolling.roll_fits.Lts as lts
-use Rattle.book.proofs.rolling.holding_fits.Reads as holding-fits-reads
-use Rattle.book.proofs.rolling.rubles_fit.Reads as rubles-fit-reads
 
 abbrev Inv-loop : tie.InvT-loop
 Inv-loop block a₀ a = (length block ≡ 288) × (a ≤ 16) × (holdingsRight (rolled block) a ≡ true)
@@ -35,84 +31,66 @@ fits e = ap (λ (h : List ℤ). collateralRight (number (rolledHolding h) 0)) (s
 sub-rubles-fit : tie.Need-sub-rubles-fit Inv-loop μ-loop
 sub-rubles-fit c = search needs
 
--- src/rolling.rt:82:20
 part-rubles-fit-start : tie.Need-part-rubles-fit-start Inv-loop μ-loop
 part-rubles-fit-start c = search needs
 
--- src/rolling.rt:82:20
 part-rubles-fit-end : tie.Need-part-rubles-fit-end Inv-loop μ-loop
 part-rubles-fit-end c = search needs
 
--- src/rolling.rt:82:9
 rubles-fit-requires : tie.Need-rubles-fit-requires Inv-loop μ-loop
 unfolding part
 rubles-fit-requires c κs = let p = c .before .pre in ruble-ranges _ (p .0) (p .1)
 
--- src/rolling.rt:83:9
 returns : tie.Need-returns Inv-loop μ-loop
 unfolding part
 returns c = let p = c .before .before .before .pre in sym (rubles-out _ (p .0) (p .1) (taken (c .before .rubles-fit .ensures) (c .if1 .taken)))
 
--- src/rolling.rt:86:5
 loop-holds : tie.Need-loop-holds Inv-loop μ-loop
 unfolding holdingsRight
 loop-holds c = (c .before .before .before .pre .0, omega arith, refl)
 
--- src/rolling.rt:87:32
 mul-at : tie.Need-mul-at Inv-loop μ-loop
 mul-at c = search needs
 
--- src/rolling.rt:87:18
 add-at : tie.Need-add-at Inv-loop μ-loop
 add-at c = search needs
 
--- src/rolling.rt:88:37
 add-holding-fits : tie.Need-add-holding-fits Inv-loop μ-loop
 add-holding-fits c = search needs
 
--- src/rolling.rt:88:26
 mul-holding-fits : tie.Need-mul-holding-fits Inv-loop μ-loop
 mul-holding-fits c = search needs
 
--- src/rolling.rt:88:26
 sub-holding-fits : tie.Need-sub-holding-fits Inv-loop μ-loop
 sub-holding-fits c = search needs
 
--- src/rolling.rt:88:26
 part-holding-fits-start : tie.Need-part-holding-fits-start Inv-loop μ-loop
 part-holding-fits-start c = search needs
 
--- src/rolling.rt:88:26
 part-holding-fits-end : tie.Need-part-holding-fits-end Inv-loop μ-loop
 part-holding-fits-end c = search needs
 
--- src/rolling.rt:88:13
 holding-fits-requires : tie.Need-holding-fits-requires Inv-loop μ-loop
 holding-fits-requires c κs = let p = c .before .before .before .before .before .before .pre in
     let a = c .before .before .loop .a in
     subst HoldingRanges (sym (lent-holding _ a)) (holding-ranges _ (p .0) (p .1) a (omega arith))
 
--- src/rolling.rt:89:13
 returns-2 : tie.Need-returns-2 Inv-loop μ-loop
 returns-2 c = let p = c .before .before .before .before .before .before .before .before .pre in
     let a = c .before .before .before .before .loop .a in
     sym (holding-out _ (p .0) (p .1) a (omega arith) (fits (lent-holding _ a) ∙ taken (c .before .holding-fits .ensures) (c .if2 .taken)))
 
--- src/rolling.rt:91:9
 add-a : tie.Need-add-a Inv-loop μ-loop
 add-a c = search needs
 
--- src/rolling.rt:86:5
 loop-less : tie.Need-loop-less Inv-loop μ-loop
 loop-less c = search needs
 
--- src/rolling.rt:86:5
 loop-again : tie.Need-loop-again Inv-loop μ-loop
 loop-again c = let p = c .before .before .before .before .before .before .before .before .pre in
     let l = c .before .before .before .before .loop in
     (p .0, omega arith, holding-next _ (p .0) (p .1) (l .a) (omega arith) (l .inv .2) (fits (lent-holding _ (l .a)) ∙ left (c .before .holding-fits .ensures) (c .if2 .left)))
 
--- src/rolling.rt:78:1
 returns-3 : tie.Need-returns-3 Inv-loop μ-loop
 unfolding part
 returns-3 c = let p = c .before .before .before .before .before .pre in

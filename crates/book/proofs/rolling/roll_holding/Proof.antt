@@ -8,74 +8,56 @@ use Rattle.book.proofs.InBounds.{collateral-size, claim-size, obligatio
 use Rattle.book.proofs.DayLater.{holding-rolled}
 use Rattle.book.proofs.rolling.roll_holding.Statement.{statement}
 use Rattle.book.proofs.rolling.roll_holding.Tie as tie
-use Rattle.book.proofs.rolling.roll_holding.Reads as reads
-use Rattle.book.proofs.rolling.roll_holding.Lts as lts
-use Rattle.book.proofs.rolling.day_later.Reads as day-later-reads
 
--- src/rolling.rt:42:18
 slice-copy-out-holding : tie.Need-slice-copy-out-holding
 slice-copy-out-holding c = search needs
 
--- src/rolling.rt:42:31
 slice-copy-out-holding-2 : tie.Need-slice-copy-out-holding-2
 slice-copy-out-holding-2 c = search needs
 
--- src/rolling.rt:42:18
 add-holding : tie.Need-add-holding
 add-holding c = let h = c .before .before .pre in sum-fits (collateral-size h) (claim-size h)
 
--- src/rolling.rt:42:44
 slice-copy-out-holding-3 : tie.Need-slice-copy-out-holding-3
 slice-copy-out-holding-3 c = search needs
 
--- src/rolling.rt:42:18
 sub-holding : tie.Need-sub-holding
 sub-holding c = let h = c .before .before .before .pre in difference-fits (collateral-size h) (claim-size h) (obligation-size h)
 
--- src/rolling.rt:42:5
 slice-set-from-holding : tie.Need-slice-set-from-holding
 slice-set-from-holding c = search needs
 
--- src/rolling.rt:43:15
 sub-day-later : tie.Need-sub-day-later
 sub-day-later c = search needs
 
--- src/rolling.rt:43:15
 part-day-later-start : tie.Need-part-day-later-start
 part-day-later-start c = search needs
 
--- src/rolling.rt:43:15
 part-day-later-end : tie.Need-part-day-later-end
 part-day-later-end c = let h = c .before .before .before .pre in simp length-set (omega arith)
 
--- src/rolling.rt:43:5
 day-later-requires : tie.Need-day-later-requires
 day-later-requires c κs = search needs
 
--- src/rolling.rt:44:15
 sub-day-later-2 : tie.Need-sub-day-later-2
 sub-day-later-2 c = search needs
 
--- src/rolling.rt:44:15
 part-day-later-start-2 : tie.Need-part-day-later-start-2
 part-day-later-start-2 c = search needs
 
--- src/rolling.rt:44:15
 part-day-later-end-2 : tie.Need-part-day-later-end-2
 part-day-later-end-2 c = let h = c .before .before .before .before .before .before .pre in omega (arith, simp length-set at (c .holding4 .given .1))
 
--- src/rolling.rt:44:5
 day-later-requires-2 : tie.Need-day-later-requires-2
 day-later-requires-2 c κs = search needs
 
--- src/rolling.rt:38:1
 same-length : tie.Need-same-length
 same-length c = c .holding5 .given .1 ∙ c .before .before .before .holding4 .given .1 ∙ simp length-set
 
--- src/rolling.rt:38:1
 returns : tie.Need-returns
 returns c = let h = c .before .before .before .before .before .before .before .before .before .pre in
-    holding-rolled _ _ _ _ (h .long) (differed (collateral-size h) (claim-size h) (obligation-size h)) (c .before .before .before .before .day-later .ensures) (c .before .day-later2 .ensures)
+    holding-rolled _ _ _ _ (h .long) (differed (collateral-size h) (claim-size h) (obligation-size h))
+    (c .before .before .before .before .day-later .ensures) (c .before .day-later2 .ensures)
 
 pub roll-holding-spec : {M : Type 1} → statement M
 roll-holding-spec =

@@ -13,10 +13,6 @@ use Rattle.book.proofs.InBounds.{ruble-ranges, holding-ranges}
 use Rattle.book.proofs.Rolled.{to-begin, to-next, holding-next-up}
 use Rattle.book.proofs.rolling.roll_stretches.Statement.{statement}
 use Rattle.book.proofs.rolling.roll_stretches.Tie as tie
-use Rattle.book.proofs.rolling.roll_stretches.Reads as reads
-use Rattle.book.proofs.rolling.roll_stretches.Lts as lts
-use Rattle.book.proofs.rolling.roll_holding.Reads as roll-holding-reads
-use Rattle.book.proofs.rolling.roll_rubles.Reads as roll-rubles-reads
 
 abbrev Inv-loop : tie.InvT-loop
 Inv-loop block₀ a₀ block a =
@@ -27,72 +23,58 @@ abbrev μ-loop : tie.MeasureT-loop
 
 -- the block at the loop's test, from the block that was found
 so-far : (c : tie.At-loop Inv-loop μ-loop) → c .loop .block ≡ rolledTo (c .loop .a) (c .before .before .before .before .args .block .now)
-so-far c = let s = c .before .before .before .before in c .loop .inv .2 (s .args .block .now) (s .pre .0) (to-begin (s .args .block .now) (s .pre .0) _ (c .before .before .roll-rubles .ensures))
+so-far c = let s = c .before .before .before .before in
+    c .loop .inv .2 (s .args .block .now) (s .pre .0) (to-begin (s .args .block .now) (s .pre .0) _ (c .before .before .roll-rubles .ensures))
 
 sub-roll-rubles : tie.Need-sub-roll-rubles Inv-loop μ-loop
 sub-roll-rubles c = search needs
 
--- src/rolling.rt:52:17
 part-roll-rubles-start : tie.Need-part-roll-rubles-start Inv-loop μ-loop
 part-roll-rubles-start c = search needs
 
--- src/rolling.rt:52:17
 part-roll-rubles-end : tie.Need-part-roll-rubles-end Inv-loop μ-loop
 part-roll-rubles-end c = search needs
 
--- src/rolling.rt:52:5
 roll-rubles-requires : tie.Need-roll-rubles-requires Inv-loop μ-loop
 unfolding part
 roll-rubles-requires c κs = let p = c .before .pre in ruble-ranges _ (p .0) (p .1)
 
--- src/rolling.rt:54:5
 loop-holds : tie.Need-loop-holds Inv-loop μ-loop
 loop-holds c = (c .block .given .1 ∙ c .before .before .before .pre .0, omega arith, λ found long e. e)
 
--- src/rolling.rt:55:32
 mul-at : tie.Need-mul-at Inv-loop μ-loop
 mul-at c = search needs
 
--- src/rolling.rt:55:18
 add-at : tie.Need-add-at Inv-loop μ-loop
 add-at c = search needs
 
--- src/rolling.rt:56:37
 add-roll-holding : tie.Need-add-roll-holding Inv-loop μ-loop
 add-roll-holding c = search needs
 
--- src/rolling.rt:56:22
 mul-roll-holding : tie.Need-mul-roll-holding Inv-loop μ-loop
 mul-roll-holding c = search needs
 
--- src/rolling.rt:56:22
 sub-roll-holding : tie.Need-sub-roll-holding Inv-loop μ-loop
 sub-roll-holding c = search needs
 
--- src/rolling.rt:56:22
 part-roll-holding-start : tie.Need-part-roll-holding-start Inv-loop μ-loop
 part-roll-holding-start c = search needs
 
--- src/rolling.rt:56:22
 part-roll-holding-end : tie.Need-part-roll-holding-end Inv-loop μ-loop
 part-roll-holding-end c = search needs
 
--- src/rolling.rt:56:9
 roll-holding-requires : tie.Need-roll-holding-requires Inv-loop μ-loop
 roll-holding-requires c κs =
     let p = c .before .before .before .before .before .before .pre in
     let l = c .before .before .loop in
     subst HoldingRanges (sym (holding-next-up _ (p .0) (l .a) (omega arith) (l .block) (so-far (c .before .before)))) (holding-ranges _ (p .0) (p .1) (l .a) (omega arith))
 
--- src/rolling.rt:57:9
 add-a : tie.Need-add-a Inv-loop μ-loop
 add-a c = search needs
 
--- src/rolling.rt:54:5
 loop-less : tie.Need-loop-less Inv-loop μ-loop
 loop-less c = search needs
 
--- src/rolling.rt:54:5
 loop-again : tie.Need-loop-again Inv-loop μ-loop
 loop-again c =
     let l = c .before .before .before .before .loop in (
@@ -101,11 +83,9 @@ loop-again c =
       λ found long e. to-next found long (l .a) (omega arith) (l .block) (l .inv .2 found long e) _ (c .before .roll-holding .ensures),
     )
 
--- src/rolling.rt:48:1
 same-length : tie.Need-same-length Inv-loop μ-loop
 same-length c = c .before .loop .inv .0 ∙ sym (c .before .before .before .before .before .pre .0)
 
--- src/rolling.rt:48:1
 returns : tie.Need-returns Inv-loop μ-loop
 unfolding rolled
 returns c = let e : c .before .loop .a ≡ 16 = omega arith in so-far (c .before) ∙ ap (λ (n : ℕ). rolledTo n (c .before .before .before .before .before .args .block .now)) e

@@ -7,31 +7,22 @@ use Rattle.book.specs.Roll.{rolledRubles}
 use Rattle.book.proofs.Amounts.{sum-fits, summed}
 use Rattle.book.proofs.rolling.rubles_fit.Statement.{statement}
 use Rattle.book.proofs.rolling.rubles_fit.Tie as tie
-use Rattle.book.proofs.rolling.rubles_fit.Reads as reads
-use Rattle.book.proofs.rolling.rubles_fit.Lts as lts
-use Rattle.whole.proofs.lies_between.Reads as lies-between-reads
 
--- src/rolling.rt:66:25
 sub-lies-between : tie.Need-sub-lies-between
 sub-lies-between c = search needs
 
--- src/rolling.rt:66:34
 shared-slice-copy-out-lies-between : tie.Need-shared-slice-copy-out-lies-between
 shared-slice-copy-out-lies-between c = search needs
 
--- src/rolling.rt:66:46
 shared-slice-copy-out-lies-between-2 : tie.Need-shared-slice-copy-out-lies-between-2
 shared-slice-copy-out-lies-between-2 c = search needs
 
--- src/rolling.rt:66:34
 add-lies-between : tie.Need-add-lies-between
 add-lies-between c = let r = c .before .before .pre in sum-fits (r .each-within 0 (omega arith)) (r .each-within 1 (omega arith))
 
--- src/rolling.rt:66:5
 lies-between-requires : tie.Need-lies-between-requires
 lies-between-requires c κs = search needs
 
--- src/rolling.rt:62:1
 returns : tie.Need-returns
 unfolding rolledRubles
 returns c = let r = c .before .before .before .pre in

@@ -17,8 +17,6 @@ use Rattle.whole.proofs.Tests.{left, taken}
 use Rattle.whole.proofs.Lists.{all-next, all-out, all-end}
 use Rattle.book.proofs.rules.all_between.Statement.{statement}
 use Rattle.book.proofs.rules.all_between.Tie as tie
-use Rattle.book.proofs.rules.all_between.Reads as reads
-use Rattle.book.proofs.rules.all_between.Lts as lts
 
 -- the test of one number
 abbrev lies : ℤ → ℤ → ℤ → Bool
@@ -33,7 +31,9 @@ abbrev μ-loop : tie.MeasureT-loop
 μ-loop numbers low high k₀ k = length numbers - k
 
 -- the two bounds, read back
-cleaned : (c : tie.Start Inv-loop μ-loop) → allTrue (map (λ x. between (c .args .low) x (c .args .high)) (c .args .numbers .now)) ≡ allTrue (map (lies (back (c .args .low)) (back (c .args .high))) (c .args .numbers .now))
+cleaned : (c : tie.Start Inv-loop μ-loop) →
+    allTrue (map (lies (c .args .low) (c .args .high)) (c .args .numbers .now))
+    ≡ allTrue (map (lies (back (c .args .low)) (back (c .args .high))) (c .args .numbers .now))
 cleaned c = ap₂ (λ (low high : ℤ). allTrue (map (lies low high) (c .args .numbers .now))) (sym (toZ-ofZ (c .fits .low))) (sym (toZ-ofZ (c .fits .high)))
 
 loop-holds : tie.Need-loop-holds Inv-loop μ-loop

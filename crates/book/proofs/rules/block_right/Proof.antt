@@ -6,40 +6,27 @@ use Rattle.whole.proofs.Tests.{left, taken, passed, failed, first-out, and-then
 use Rattle.book.proofs.Good.{good-closed, good-open}
 use Rattle.book.proofs.rules.block_right.Statement.{statement}
 use Rattle.book.proofs.rules.block_right.Tie as tie
-use Rattle.book.proofs.rules.block_right.Reads as reads
-use Rattle.book.proofs.rules.block_right.Lts as lts
-use Rattle.book.proofs.rules.head_right.Reads as head-right-reads
-use Rattle.book.proofs.rules.in_bounds.Reads as in-bounds-reads
-use Rattle.book.proofs.rules.is_empty.Reads as is-empty-reads
-use Rattle.whole.proofs.number_between.Reads as number-between-reads
 
--- src/rules.rt:106:8
 number-between-requires : tie.Need-number-between-requires
 number-between-requires c κs = search needs
 
--- src/rules.rt:107:9
 is-empty-requires : tie.Need-is-empty-requires
 is-empty-requires c κs = search needs
 
--- src/rules.rt:107:9
 returns : tie.Need-returns
 returns c = c .is-empty .ensures ∙ sym (good-closed _ (passed (c .before .before .number-between .ensures) (c .before .if1 .taken)))
 
--- src/rules.rt:109:9
 head-right-requires : tie.Need-head-right-requires
 head-right-requires c κs = search needs
 
--- src/rules.rt:110:9
 returns-2 : tie.Need-returns-2
 returns-2 c =
     sym (good-open _ (failed (c .before .before .before .number-between .ensures) (c .before .before .if1 .left))
     ∙ first-out _ _ (taken (c .before .head-right .ensures) (c .if2 .taken)))
 
--- src/rules.rt:112:5
 in-bounds-requires : tie.Need-in-bounds-requires
 in-bounds-requires c κs = search needs
 
--- src/rules.rt:102:1
 returns-3 : tie.Need-returns-3
 returns-3 c =
     let h = c .before .before in

@@ -1,3 +1,5 @@
+-- `rules::head_right` meets its contract: a test that fails is a false mark, and where all before passed the last decides.
+-- Assumes nothing.
 use mathlib.Core.Path.{sym}
 use borrow.Author.Needs.{needs}
 use Rattle.whole.proofs.Tests.{left, taken}
@@ -5,69 +7,52 @@ use Rattle.whole.proofs.Lists.{all-out-at, next, last, passes}
 use Rattle.book.specs.Rules.{headMarks}
 use Rattle.book.proofs.rules.head_right.Statement.{statement}
 use Rattle.book.proofs.rules.head_right.Tie as tie
-use Rattle.book.proofs.rules.head_right.Reads as reads
-use Rattle.book.proofs.rules.head_right.Lts as lts
-use Rattle.whole.proofs.number_between.Reads as number-between-reads
 
--- src/rules.rt:80:9
 number-between-requires : tie.Need-number-between-requires
 number-between-requires c κs = search needs
 
--- src/rules.rt:81:9
 returns : tie.Need-returns
 unfolding headMarks
 returns c = sym (all-out-at _ 0 (taken (c .before .number-between .ensures) (c .if1 .taken)))
 
--- src/rules.rt:83:9
 number-between-requires-2 : tie.Need-number-between-requires-2
 number-between-requires-2 c κs = search needs
 
--- src/rules.rt:84:9
 returns-2 : tie.Need-returns-2
 unfolding headMarks
 returns-2 c = sym (all-out-at _ 1 (taken (c .before .number-between2 .ensures) (c .if2 .taken)))
 
--- src/rules.rt:86:9
 number-between-requires-3 : tie.Need-number-between-requires-3
 number-between-requires-3 c κs = search needs
 
--- src/rules.rt:87:9
 returns-3 : tie.Need-returns-3
 unfolding headMarks
 returns-3 c = sym (all-out-at _ 2 (taken (c .before .number-between3 .ensures) (c .if3 .taken)))
 
--- src/rules.rt:89:9
 number-between-requires-4 : tie.Need-number-between-requires-4
 number-between-requires-4 c κs = search needs
 
--- src/rules.rt:90:9
 returns-4 : tie.Need-returns-4
 unfolding headMarks
 returns-4 c = sym (all-out-at _ 3 (taken (c .before .number-between4 .ensures) (c .if4 .taken)))
 
--- src/rules.rt:92:9
 number-between-requires-5 : tie.Need-number-between-requires-5
 number-between-requires-5 c κs = search needs
 
--- src/rules.rt:93:9
 returns-5 : tie.Need-returns-5
 unfolding headMarks
 returns-5 c = sym (all-out-at _ 4 (taken (c .before .number-between5 .ensures) (c .if5 .taken)))
 
--- src/rules.rt:95:9
 number-between-requires-6 : tie.Need-number-between-requires-6
 number-between-requires-6 c κs = search needs
 
--- src/rules.rt:96:9
 returns-6 : tie.Need-returns-6
 unfolding headMarks
 returns-6 c = sym (all-out-at _ 5 (taken (c .before .number-between6 .ensures) (c .if6 .taken)))
 
--- src/rules.rt:98:5
 number-between-requires-7 : tie.Need-number-between-requires-7
 number-between-requires-7 c κs = search needs
 
--- src/rules.rt:76:1
 returns-7 : tie.Need-returns-7
 unfolding headMarks
 returns-7 c =

@@ -1,3 +1,4 @@
+-- `rules::holding_right` meets its contract: the collateral, then the rest of the holding. Assumes nothing.
 use mathlib.Core.Path.{sym, ap, _∙_}
 use mathlib.Core.List.{List, map}
 use lib.IntN.{ℤ}
@@ -8,41 +9,29 @@ use Rattle.book.specs.Rules.{quantityRight, holdingRight}
 use Rattle.whole.proofs.Parts.{to-end}
 use Rattle.book.proofs.rules.holding_right.Statement.{statement}
 use Rattle.book.proofs.rules.holding_right.Tie as tie
-use Rattle.book.proofs.rules.holding_right.Reads as reads
-use Rattle.book.proofs.rules.holding_right.Lts as lts
-use Rattle.book.proofs.rules.all_between.Reads as all-between-reads
-use Rattle.whole.proofs.number_between.Reads as number-between-reads
 
--- src/rules.rt:42:43
 sub-number-between : tie.Need-sub-number-between
 sub-number-between c = search needs
 
--- src/rules.rt:42:9
 number-between-requires : tie.Need-number-between-requires
 number-between-requires c κs = search needs
 
--- src/rules.rt:43:9
 returns : tie.Need-returns
 unfolding holdingRight
 returns c = sym (first-out _ _ (taken (c .before .number-between .ensures) (c .if1 .taken)))
 
--- src/rules.rt:45:17
 sub-all-between : tie.Need-sub-all-between
 sub-all-between c = search needs
 
--- src/rules.rt:45:17
 part-all-between-start : tie.Need-part-all-between-start
 part-all-between-start c = search needs
 
--- src/rules.rt:45:17
 part-all-between-end : tie.Need-part-all-between-end
 part-all-between-end c = search needs
 
--- src/rules.rt:45:5
 all-between-requires : tie.Need-all-between-requires
 all-between-requires c κs = search needs
 
--- src/rules.rt:38:1
 returns-2 : tie.Need-returns-2
 unfolding holdingRight
 returns-2 c =

@@ -11,9 +11,6 @@ use Rattle.book.proofs.Blocks.{lent-holding, lent-length}
 use Rattle.book.proofs.Holdings.{holdings-out, holdings-next}
 use Rattle.book.proofs.rules.holdings_right.Statement.{statement}
 use Rattle.book.proofs.rules.holdings_right.Tie as tie
-use Rattle.book.proofs.rules.holdings_right.Reads as reads
-use Rattle.book.proofs.rules.holdings_right.Lts as lts
-use Rattle.book.proofs.rules.holding_right.Reads as holding-right-reads
 
 abbrev Inv-loop : tie.InvT-loop
 Inv-loop block a₀ a = (length block ≡ 288) × (a ≤ 16) × (holdingsRight block a ≡ true)

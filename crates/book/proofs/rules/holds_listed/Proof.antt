@@ -12,10 +12,6 @@ use Rattle.book.proofs.Blocks.{lent-holding}
 use Rattle.book.proofs.Holdings.{listed-out, listed-next, empty-next}
 use Rattle.book.proofs.rules.holds_listed.Statement.{statement}
 use Rattle.book.proofs.rules.holds_listed.Tie as tie
-use Rattle.book.proofs.rules.holds_listed.Reads as reads
-use Rattle.book.proofs.rules.holds_listed.Lts as lts
-use Rattle.book.proofs.rules.is_empty.Reads as is-empty-reads
-use Rattle.rates.proofs.is_listed.Reads as is-listed-reads
 
 abbrev Inv-loop : tie.InvT-loop
 Inv-loop block clearing a₀ a = (length block ≡ 288) × (a ≤ 16) × (holdsListed block clearing a ≡ true)

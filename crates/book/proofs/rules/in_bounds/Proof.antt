@@ -6,41 +6,29 @@ use Rattle.whole.proofs.Tests.{left, taken, first-out, and-then}
 use Rattle.book.specs.Rules.{inBounds}
 use Rattle.book.proofs.rules.in_bounds.Statement.{statement}
 use Rattle.book.proofs.rules.in_bounds.Tie as tie
-use Rattle.book.proofs.rules.in_bounds.Reads as reads
-use Rattle.book.proofs.rules.in_bounds.Lts as lts
-use Rattle.book.proofs.rules.all_between.Reads as all-between-reads
-use Rattle.book.proofs.rules.holdings_right.Reads as holdings-right-reads
 
--- src/rules.rt:69:21
 sub-all-between : tie.Need-sub-all-between
 sub-all-between c = search needs
 
--- src/rules.rt:69:21
 part-all-between-start : tie.Need-part-all-between-start
 part-all-between-start c = search needs
 
--- src/rules.rt:69:21
 part-all-between-end : tie.Need-part-all-between-end
 part-all-between-end c = search needs
 
--- src/rules.rt:69:36
 sub-all-between-2 : tie.Need-sub-all-between-2
 sub-all-between-2 c = search needs
 
--- src/rules.rt:69:9
 all-between-requires : tie.Need-all-between-requires
 all-between-requires c κs = search needs
 
--- src/rules.rt:70:9
 returns : tie.Need-returns
 unfolding inBounds part
 returns c = sym (first-out _ _ (taken (c .before .all-between .ensures) (c .if1 .taken)))
 
--- src/rules.rt:72:5
 holdings-right-requires : tie.Need-holdings-right-requires
 holdings-right-requires c κs = search needs
 
--- src/rules.rt:65:1
 returns-2 : tie.Need-returns-2
 unfolding inBounds part
 returns-2 c = and-then _ _ (left (c .before .before .all-between .ensures) (c .before .if1 .left)) (c .holdings-right .ensures)
