@@ -11,16 +11,13 @@ use Rattle.whole.proofs.Expressions.{var, lit, neg, _⊕_, _⊖_, _⊛_, _⊓_,
 use Rattle.whole.proofs.Numbers.{≤ℤ-trans, +ℤ-mono, *ℤ-mono, *ℤ-monoʳ, *ℤ-step, *ℤ-distribˡ}
 use Rattle.whole.proofs.Rules.{ints}
 use Rattle.figures.specs.Risk.{charge, long, short}
+use Rattle.figures.proofs.Numbers.{*ℤ-zero}
 
 -- 0 at 0, never falls, grows by at most W for each unit
 pub record Slope (W : ℤ) (F : ℤ → ℤ) : Type 0 where
   pub none : F (pos 0) ≡ pos 0
   pub mono : (n m : ℤ) → n ≤ℤ m → F n ≤ℤ F m
   pub step : (n m : ℤ) → n ≤ℤ m → F m ≤ℤ (F n +ℤ W *ℤ (m -ℤ n))
-
--- nothing times a number
-pub *ℤ-zero : (x : ℤ) → x *ℤ pos 0 ≡ pos 0
-*ℤ-zero x = eq! (var x ⊛ lit 0) (lit 0) (omega arith)
 
 -- W for each unit of two parts is W for each unit of the whole
 in-parts : (W X Y Z : ℤ) → X +ℤ Y ≡ Z → W *ℤ X +ℤ W *ℤ Y ≡ W *ℤ Z

@@ -8,13 +8,13 @@ use Rattle.whole.specs.Numbers.{minℤ, dividedDown}
 use Rattle.whole.specs.Bounds.{_upto_}
 use Rattle.whole.specs.Parts.{number}
 use Rattle.whole.proofs.Expressions.{var, lit, _⊕_, _⊖_, _⊛_, _⊓_, is, le!, le?}
-use Rattle.whole.proofs.Numbers.{*ℤ-mono, *ℤ-monoʳ}
+use Rattle.whole.proofs.Numbers.{*ℤ-mono, *ℤ-monoʳ, *ℤ-nonneg}
 use Rattle.whole.proofs.Rounding.{down-below, down-greatest}
 use Rattle.whole.proofs.Rules.{ints}
 use Rattle.rates.specs.Ranges.{TableRanges}
 use Rattle.figures.specs.Limit.{discountOf}
 use Rattle.figures.specs.Ranges.{PercentRanges}
-use Rattle.figures.proofs.Upto.{product-upto}
+use Rattle.figures.proofs.Numbers.{product-upto}
 
 -- the percents of groups that pass the check
 pub percent-ranges : {clearing own groups : List ℤ} → TableRanges clearing own groups → PercentRanges groups
@@ -37,6 +37,9 @@ discount-upto {q} {m} {k} h n l =
     let low = down-greatest 100 (omega arith) x (pos 0) (whole .low) in
     record { low = low; high = omega ints; fits = omega ints }
 
+pub discount-from-zero : (q m : ℤ) → q upto 50 → pos 0 ≤ℤ m → pos 0 ≤ℤ discounted q m
+discount-from-zero q m h n = down-greatest 100 (omega arith) _ (pos 0) (*ℤ-nonneg (pos 2 *ℤ q) m (twice-upto h .low) n)
+
 -- it falls by no more than the smaller side falls
 pub discount-step : (q m m′ k : ℤ) → q upto 50 → m ≤ℤ (m′ +ℤ k) → pos 0 ≤ℤ k → discounted q m ≤ℤ (discounted q m′ +ℤ k)
 discount-step q m m′ k h n z =
@@ -50,6 +53,12 @@ discount-step q m m′ k h n z =
     (le! (lit 100 ⊛ (var d ⊖ var k)) (var (pos 2 *ℤ q) ⊛ var m′)
     (omega (arith, more, most, le? (lit 100 ⊛ var d) (var (pos 2 *ℤ q) ⊛ var m) (down-below 100 (omega arith) x)))) in
     le! (var d) (var (dividedDown x′ 100) ⊕ var k) (omega (arith, le? (var d ⊖ var k) (var (dividedDown x′ 100)) near))
+
+pub discount-below : (q m : ℤ) → q upto 50 → pos 0 ≤ℤ m → discounted q m ≤ℤ m
+discount-below q m h n =
+    let d = dividedDown (pos 2 *ℤ q *ℤ m) 100 in
+    let below = le? (lit 100 ⊛ var d) (var (pos 2 *ℤ q) ⊛ var m) (down-below 100 (omega arith) _) in
+    le! (var d) (var m) (omega (arith, below, le? (var (pos 2 *ℤ q) ⊛ var m) (lit 100 ⊛ var m) (*ℤ-monoʳ m (pos 2 *ℤ q) (pos 100) n (twice-upto h .high))))
 
 -- of two sides, neither of which falls by more than k
 pub smaller-step : (x y x′ y′ k : ℤ) → x ≤ℤ (x′ +ℤ k) → y ≤ℤ (y′ +ℤ k) → minℤ x y ≤ℤ (minℤ x′ y′ +ℤ k)

@@ -1,5 +1,5 @@
--- Laws of C' as the collateral grows from held to held′ and the trades t stay as they are: C' never falls, and never grows faster than C. So a
--- deposit can only help, and by no more than was deposited.
+-- Laws of C' as the collateral grows from held to held′ and the trades t stay as they are: C' never falls, and never grows faster than C. It is
+-- what demand 3 asks of collateral; of worth, risk and limit nothing is said here.
 -- Assumes nothing.
 use mathlib.Core.Path.{_≡_}
 use native.Mathlib.Omega.{arith}

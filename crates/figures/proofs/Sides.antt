@@ -9,7 +9,7 @@ use lib.Signed.{_≤ℤ_, ≤ℤ-refl}
 use Rattle.whole.specs.Numbers.{maxℤ, dividedUp}
 use Rattle.whole.specs.Bounds.{_upto_}
 use Rattle.whole.specs.Parts.{number}
-use Rattle.whole.proofs.Expressions.{var, lit, neg, _⊖_, _⊛_, _⊔_, le!, eq! }
+use Rattle.whole.proofs.Expressions.{le!, eq!, var, lit, neg, _⊖_, _⊛_, _⊔_}
 use Rattle.whole.proofs.Numbers.{≤ℤ-trans, *ℤ-monoʳ, *ℤ-distribʳ}
 use Rattle.whole.proofs.Rounding.{up-mono, up-add, up-least}
 use Rattle.whole.proofs.Rules.{ints}
@@ -18,7 +18,7 @@ use Rattle.rates.specs.Ranges.{RowRanges}
 use Rattle.rates.specs.InForce.{outerWidth}
 use Rattle.figures.specs.Collateral.{special}
 use Rattle.figures.specs.Risk.{long, short, charge, marketCharge, sideRisk, positionSum, longSum, shortSum, marketRisk, fallCharge, riseCharge, interestOf}
-use Rattle.figures.proofs.Upto.{product-upto}
+use Rattle.figures.proofs.Numbers.{product-upto}
 use Rattle.figures.proofs.Charge.{Slope, charge-slope, slope-upto, signed-mono, signed-step}
 
 -- ---- the two sides of a number: one is its size, the other 0
@@ -41,22 +41,22 @@ module _ (row : List ℤ) (r : RowRanges row) (side : ℕ) (h : side < 2) where
       let s = r .side side h in
       charge-slope _ _ _ _ (s .base-upto .low) (s .base-raised) (s .raised-upto .low) (≤ℤ-refl _) (r .market-upto .low)
 
-  -- no units, no risk
-  pub side-none : sideRisk row side (pos 0) ≡ pos 0
-  unfolding sideRisk marketCharge dividedUp
-  side-none = ap (λ (c : ℤ). dividedUp (c *ℤ price row) 10000) (side-slope .none) ∙ ap (λ (c : ℤ). dividedUp c 10000) (eq! (lit 0 ⊛ var (price row)) (lit 0) (omega arith))
-
-  -- it never falls as the units grow
-  pub side-mono : (n m : ℤ) → n ≤ℤ m → sideRisk row side n ≤ℤ sideRisk row side m
-  unfolding sideRisk marketCharge
-  side-mono n m q = up-mono 10000 (omega arith) _ _ (*ℤ-monoʳ (price row) _ _ (r .price-upto .low) (side-slope .mono n m q))
-
   -- it grows by at most the raised rate times the price for each unit, rounded up
   pub side-step : (n m : ℤ) → n ≤ℤ m → sideRisk row side m ≤ℤ (sideRisk row side n +ℤ dividedUp (raisedRate row side *ℤ (m -ℤ n) *ℤ price row) 10000)
   unfolding sideRisk marketCharge
   side-step n m q =
       ≤ℤ-trans (up-mono 10000 (omega arith) _ _ (rw *ℤ-distribʳ at (*ℤ-monoʳ (price row) _ _ (r .price-upto .low) (side-slope .step n m q))))
       (up-add 10000 (omega arith) _ _)
+
+  -- it never falls as the units grow
+  pub side-mono : (n m : ℤ) → n ≤ℤ m → sideRisk row side n ≤ℤ sideRisk row side m
+  unfolding sideRisk marketCharge
+  side-mono n m q = up-mono 10000 (omega arith) _ _ (*ℤ-monoʳ (price row) _ _ (r .price-upto .low) (side-slope .mono n m q))
+
+  -- no units, no risk
+  pub side-none : sideRisk row side (pos 0) ≡ pos 0
+  unfolding sideRisk marketCharge dividedUp
+  side-none = ap (λ (c : ℤ). dividedUp (c *ℤ price row) 10000) (side-slope .none) ∙ ap (λ (c : ℤ). dividedUp c 10000) (eq! (lit 0 ⊛ var (price row)) (lit 0) (omega arith))
 
   -- it is from 0 to ten million kopecks for each unit
   pub side-upto : {n : ℤ} {k : ℕ} → n upto k → 10000000 * k < 900000000000000 → sideRisk row side n upto (10000000 * k)
@@ -102,14 +102,16 @@ module _ (row : List ℤ) (r : RowRanges row) (d : ℕ) (h : d < 8) where
   unfolding outerWidth fallCharge
   fall-slope =
       let t = r .date d h in
-      charge-slope _ _ _ _ (t .below .low) (le! (var (mid row d) ⊖ var (low row d)) ((var (mid row d) ⊖ var (outerLow row d)) ⊔ (var (outerUp row d) ⊖ var (mid row d))) (omega (ints, t .outer-lower)))
+      let inner = le! (var (mid row d) ⊖ var (low row d)) ((var (mid row d) ⊖ var (outerLow row d)) ⊔ (var (outerUp row d) ⊖ var (mid row d))) (omega (ints, t .outer-lower)) in
+      charge-slope _ _ _ _ (t .below .low) inner
       (t .outer-below .low) (le! (var (mid row d -ℤ outerLow row d)) (var (mid row d -ℤ outerLow row d) ⊔ var (outerUp row d -ℤ mid row d)) (omega arith)) (r .interest-upto .low)
 
   pub rise-slope : Slope (outerWidth row d) (riseCharge row d)
   unfolding outerWidth riseCharge
   rise-slope =
       let t = r .date d h in
-      charge-slope _ _ _ _ (t .above .low) (le! (var (up row d) ⊖ var (mid row d)) ((var (mid row d) ⊖ var (outerLow row d)) ⊔ (var (outerUp row d) ⊖ var (mid row d))) (omega (ints, t .outer-higher)))
+      let inner = le! (var (up row d) ⊖ var (mid row d)) ((var (mid row d) ⊖ var (outerLow row d)) ⊔ (var (outerUp row d) ⊖ var (mid row d))) (omega (ints, t .outer-higher)) in
+      charge-slope _ _ _ _ (t .above .low) inner
       (t .outer-above .low) (le! (var (outerUp row d -ℤ mid row d)) (var (mid row d -ℤ outerLow row d) ⊔ var (outerUp row d -ℤ mid row d)) (omega arith)) (r .interest-upto .low)
 
   -- the interest of a date never falls as its position grows, and grows by at most the greater width for each unit

@@ -1,5 +1,5 @@
 -- One more asset: what `withAsset` does to the sums, and to their bounds. Assumes nothing.
-use mathlib.Core.Path.{_≡_, sym, ap, ap₂, _∙_}
+use mathlib.Core.Path.{_≡_, refl, sym, ap, ap₂, _∙_}
 use mathlib.Core.Bool.{Bool, true, false, cond}
 use mathlib.Core.List.{List}
 use Prim.Native.Nat.{ℕ, suc, _+_, _*_, _≤_, _<_}
@@ -39,7 +39,7 @@ module _ (risks : List ℤ) (g : ℕ) (x : ℤ) where
 
   added-at : g < length risks → (j : ℕ) → number (addedTo risks g x) j ≡ number risks j +ℤ cond (eqb g j) x (pos 0)
   unfolding addedTo
-  added-at h j = by (eqb g j) (λ i. eqb g j)
+  added-at h j = by (eqb g j) refl
     where
       by : (t : Bool) → eqb g j ≡ t → number (set risks g (number risks g +ℤ x)) j ≡ number risks j +ℤ cond t x (pos 0)
       by true e =
@@ -54,7 +54,8 @@ side-step n g f x l h =
     let m = tabulated-length F 9 in
     let a = added-length (tabulated 9 F) g x in
     ext-getD (pos 0) _ _ (a ∙ m ∙ sym (tabulated-length G 9))
-    (λ j q. added-at (tabulated 9 F) g x (omega arith) j ∙ ap₂ _+ℤ_ (tabulated-at F 9 j (pos 0) (omega arith)) (sym (h j)) ∙ sym (sum-suc n (f j)) ∙ sym (tabulated-at G 9 j (pos 0) (omega arith)))
+    (λ j q. let after = tabulated-at G 9 j (pos 0) (omega arith) in
+    added-at (tabulated 9 F) g x (omega arith) j ∙ ap₂ _+ℤ_ (tabulated-at F 9 j (pos 0) (omega arith)) (sym (h j)) ∙ sym (sum-suc n (f j)) ∙ sym after)
   where
     F : ℕ → ℤ
     F j = Σ< n (f j)
@@ -70,8 +71,8 @@ module _ (rows : ℕ → List ℤ) (xs : ℕ → Asset) where
       let valuation = sym (sum-suc n (λ a. xs a .worth)) in
       let market = sym (sum-suc n (λ a. marketRisk (rows a) (xs a .positions))) in
       let interest = sym (sum-suc n (λ a. interestRisk (rows a) (xs a .positions))) in
-      let long = side-step n (groupOf (rows n)) (λ g a. cond (eqb (groupOf (rows a)) g) (longRisk (rows a) (xs a .positions)) (pos 0)) _ h (λ j i. cond (eqb (groupOf (rows n)) j) (longRisk (rows n) (xs n .positions)) (pos 0)) in
-      let short = side-step n (groupOf (rows n)) (λ g a. cond (eqb (groupOf (rows a)) g) (shortRisk (rows a) (xs a .positions)) (pos 0)) _ h (λ j i. cond (eqb (groupOf (rows n)) j) (shortRisk (rows n) (xs n .positions)) (pos 0)) in
+      let long = side-step n (groupOf (rows n)) (λ g a. inGroup g (rows a) (longRisk (rows a) (xs a .positions))) _ h (λ j. refl) in
+      let short = side-step n (groupOf (rows n)) (λ g a. inGroup g (rows a) (shortRisk (rows a) (xs a .positions))) _ h (λ j. refl) in
       λ i. record { valuation = valuation i; market = market i; interest = interest i; long = long i; short = short i }
 
   -- a turn of the loop over the assets
@@ -123,18 +124,18 @@ ranges-wider n m t h l k =
     }
 
 -- no assets
-zero-upto : {x : ℤ} → x ≡ pos 0 → x upto 0
-zero-upto {x} e = record { low = omega ints; high = omega ints; fits = omega ints }
+none-upto : {x : ℤ} → x ≡ pos 0 → x upto 0
+none-upto {x} e = record { low = omega ints; high = omega ints; fits = omega ints }
 
 group-none : (f : ℕ → ℕ → ℤ) → GroupRanges 0 (tabulated 9 (λ g. Σ< 0 (f g)))
-group-none f = record { size = tabulated-length _ 9; each = λ g l. zero-upto (tabulated-at (λ j. Σ< 0 (f j)) 9 g (pos 0) l ∙ sum-none _) }
+group-none f = record { size = tabulated-length _ 9; each = λ g l. none-upto (tabulated-at (λ j. Σ< 0 (f j)) 9 g (pos 0) l ∙ sum-none _) }
 
 pub ranges-none : (rows : ℕ → List ℤ) (xs : ℕ → Asset) → TotalRanges 0 (totalsOf rows xs 0)
 unfolding totalsOf
 ranges-none rows xs = record {
   valuation-within = let e = sum-none (λ a. xs a .worth) in omega ints;
-  market-upto = zero-upto (sum-none _);
-  interest-upto = zero-upto (sum-none _);
+  market-upto = none-upto (sum-none _);
+  interest-upto = none-upto (sum-none _);
   long-range = group-none (λ g a. inGroup g (rows a) (longRisk (rows a) (xs a .positions)));
   short-range = group-none (λ g a. inGroup g (rows a) (shortRisk (rows a) (xs a .positions)));
 }

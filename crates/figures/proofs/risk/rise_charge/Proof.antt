@@ -1,14 +1,13 @@
 -- `figures::risk::rise_charge` meets its contract: the charge of n units at the widths of the date, each at most ten million.
 -- Assumes nothing.
-use mathlib.Core.Path.{_≡_, sym, _∙_, subst}
+use mathlib.Core.Path.{sym, _∙_, subst}
 use native.Mathlib.Omega.{arith}
 use lib.IntN.{ℤ}
 use mir.Facts.{toZ-ofZ}
 use borrow.Author.Needs.{needs}
-use denote.Ref.{now}
 use Rattle.whole.specs.Bounds.{_upto_}
-use Rattle.figures.specs.Risk.{riseCharge}
-use Rattle.figures.proofs.Upto.{upto-wider, upto-back}
+use Rattle.figures.specs.Risk.{charge, riseCharge}
+use Rattle.figures.proofs.Numbers.{upto-wider, upto-back}
 use Rattle.figures.proofs.Charge.{slope-upto}
 use Rattle.figures.proofs.Sides.{width-below, rise-slope}
 use Rattle.figures.proofs.risk.rise_charge.Statement.{statement}
@@ -50,12 +49,16 @@ unfolding riseCharge
 returns c =
     let s = c .before .before .before .before in
     let p = s .pre in
-    let inner = c .before .before .before .width .ensures in
-    let outer = c .before .before .width2 .ensures in
+    let w = c .before .before .before .width .ensures in
+    let w2 = c .before .before .width2 .ensures in
     let r = c .charge-of .ensures in
-    let e : c .charge-of .result ≡ riseCharge (now (s .args .row)) (s .args .d) (s .args .n) =
-    cc (r .0, toZ-ofZ (inner .1 .fits), inner .0, toZ-ofZ (outer .1 .fits), outer .0, toZ-ofZ (p .0 .interest-upto .fits), toZ-ofZ (s .fits .n)) in
-    (toZ-ofZ (r .1 .fits) ∙ e, upto-back (subst (λ (z : ℤ). z upto 80000000000000) (sym e) (slope-upto 10000000 (rise-slope _ (p .0) (s .args .d) (p .1)) (width-below _ (p .0) (s .args .d) (p .1)) (p .2) (omega arith))))
+    let inner = toZ-ofZ (w .1 .fits) ∙ w .0 in
+    let outer = toZ-ofZ (w2 .1 .fits) ∙ w2 .0 in
+    let limit = toZ-ofZ (p .0 .interest-upto .fits) in
+    let units = toZ-ofZ (s .fits .n) in
+    let e = r .0 ∙ (λ i. charge (inner i) (outer i) (limit i) (units i)) in
+    let small = slope-upto 10000000 (rise-slope _ (p .0) (s .args .d) (p .1)) (width-below _ (p .0) (s .args .d) (p .1)) (p .2) (omega arith) in
+    (toZ-ofZ (r .1 .fits) ∙ e, upto-back (subst (λ (z : ℤ). z upto 80000000000000) (sym e) small))
 
 pub rise-charge-spec : {M : Type 1} → statement M
 rise-charge-spec =

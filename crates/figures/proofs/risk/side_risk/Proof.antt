@@ -15,7 +15,7 @@ use Rattle.whole.proofs.Machine.{Runs, need!, runs}
 use Rattle.whole.proofs.Rules.{ints}
 use Rattle.rates.specs.Row.{price, baseRate, raisedRate, marketLimit}
 use Rattle.figures.specs.Risk.{charge, marketCharge, sideRisk}
-use Rattle.figures.proofs.Upto.{product-upto, upto-wider, upto-back}
+use Rattle.figures.proofs.Numbers.{product-upto, upto-wider, upto-back}
 use Rattle.figures.proofs.Charge.{slope-upto}
 use Rattle.figures.proofs.Sides.{side-slope, side-upto}
 use Rattle.figures.proofs.risk.side_risk.Statement.{statement}
@@ -29,7 +29,11 @@ charged c =
     let s = c .before .before .before .before in
     let r = s .pre .0 in
     let rates = r .side (s .args .side) (s .pre .1) in
-    cc (c .charge-of .ensures .0, toZ-ofZ (rates .base-upto .fits), toZ-ofZ (rates .raised-upto .fits), toZ-ofZ (r .market-upto .fits), toZ-ofZ (s .fits .n))
+    let base = toZ-ofZ (rates .base-upto .fits) in
+    let raised = toZ-ofZ (rates .raised-upto .fits) in
+    let limit = toZ-ofZ (r .market-upto .fits) in
+    let units = toZ-ofZ (s .fits .n) in
+    c .charge-of .ensures .0 ∙ (λ i. charge (base i) (raised i) (limit i) (units i))
 
 charged-upto : (c : tie.After-charge-of) → c .charge-of .result upto 640000000000
 charged-upto c =

@@ -1,0 +1,85 @@
+-- Laws of a call's signed numbers, which code reads back from their bits: what a test of one says, and one from 0 up as an index; and the rules by
+-- which `search codes` finds a code from the tests that were made.
+-- Assumes nothing.
+use mathlib.Core.Path.{_≡_, refl, sym, ap, _∙_}
+use mathlib.Core.Logic.{_⊎_, inl, inr}
+use mathlib.Core.Bool.{Bool, true, false, not, _||_}
+use Prim.Native.Nat.{ℕ, _≤_, _<_, _^_}
+use native.Mathlib.Omega.{arith}
+use lib.Dec.{T}
+use lib.IntN.{ℤ, pos, negsuc, natAbs}
+use lib.Signed.{leZ, ltZ, nonNeg}
+use mir.Syntax.{w64}
+use mir.Val.{Fits, SFits}
+use mir.Facts.{toZ-ofZ}
+use borrow.Author.Tests.{eq-eqb, ne-eqb, le-leb, le-ltb}
+use Rattle.whole.specs.Bounds.{between}
+use Rattle.whole.proofs.Bounds.{amid}
+use Rattle.whole.proofs.Machine.{back}
+use Rattle.whole.proofs.PlusMinus.{abs-is, one-is-zero}
+use Rattle.whole.proofs.Refusals.{none, hit, miss, code}
+use Rattle.whole.proofs.Rules.{ints}
+use Rattle.whole.proofs.Tests.{tests, left, taken}
+
+-- ---- what a test of a parameter said
+pub heard : {r : Bool} {x : ℤ} (low high : ℤ) → SFits w64 x → r ≡ between low (back x) high → r ≡ between low x high
+heard low high f e = e ∙ ap (λ (z : ℤ). between low z high) (toZ-ofZ f)
+
+module _ {r : Bool} {x : ℤ} (low high : ℤ) (f : SFits w64 x) (e : r ≡ between low (back x) high) where
+  pub in-range : not r ≡ false → between low x high ≡ true
+  in-range = left (heard low high f e)
+
+  pub out-of-range : not r ≡ true → between low x high ≡ false
+  out-of-range = taken (heard low high f e)
+
+-- ---- a refusal's own test
+pub denied : {b : Bool} → b ≡ true → not b ≡ false
+denied e = ap not e
+
+pub refuted : {b : Bool} → b ≡ false → not b ≡ true
+refuted e = ap not e
+
+pub either-left : (a b : Bool) → a ≡ true → a || b ≡ true
+either-left a b e = rw e refl
+
+pub either-right : (a b : Bool) → b ≡ true → a || b ≡ true
+either-right true b e = refl
+either-right false b e = e
+
+pub neither : (a b : Bool) → a ≡ false → b ≡ false → a || b ≡ false
+neither a b e f = rw (e, f) refl
+
+-- what `||` says
+pub or-cases : (a b : Bool) → a || b ≡ true → (a ≡ true) ⊎ (b ≡ true)
+or-cases true b e = inl refl
+or-cases false b e = inr e
+
+pub or-left-off : (a b : Bool) → a || b ≡ false → a ≡ false
+or-left-off true b e = e
+or-left-off false b e = refl
+
+pub or-holds : (a b : Bool) → (b ≡ true → a ≡ true) → a ≡ a || b
+or-holds true b h = refl
+or-holds false true h = h refl
+or-holds false false h = refl
+
+pub ruleset codes = (tests, code, hit, miss, none, in-range, out-of-range, eq-eqb, ne-eqb, denied, refuted, either-left, either-right, neither)
+
+-- ---- a number that was found between 0 and n, as an index
+pub index-is : (x : ℤ) (n : ℕ) → between (pos 0) x (pos n) ≡ true → natAbs x ≤ n
+index-is x n e = let a = amid e in omega (ints, abs-is x, one-is-zero x)
+
+pub index : {x : ℤ} (n : ℕ) → n < 2 ^ 64 → SFits w64 x → between (pos 0) x (pos n) ≡ true → T (nonNeg (back x)) × Fits w64 (natAbs (back x))
+index {x} n l f e = let a = amid e in rw (toZ-ofZ f) (omega ints, record { fits = let h = index-is x n e in omega arith })
+
+-- ---- the two ways to ask for a sign
+pub not-negative : (z : ℤ) → leZ (pos 0) z ≡ not (ltZ z (pos 0))
+not-negative (pos n) = rw (le-leb 0 n (omega arith), le-ltb n 0 (omega arith)) refl
+not-negative (negsuc n) = refl
+
+pub negative : (z : ℤ) → ltZ z (pos 0) ≡ not (leZ (pos 0) z)
+negative z = sym (ap not (not-negative z) ∙ not-not (ltZ z (pos 0)))
+  where
+    not-not : (b : Bool) → not (not b) ≡ b
+    not-not true = refl
+    not-not false = refl

@@ -1,0 +1,42 @@
+-- `gate::table_gate` meets its contract: the table check's code is the gate's where the book has its length, and the account is looked at last.
+-- Assumes nothing.
+use mathlib.Core.Path.{_≡_, sym, ap, _∙_}
+use borrow.Author.Needs.{needs}
+use Rattle.whole.proofs.Refusals.{none, hit, miss}
+use Rattle.rates.specs.Tables.{checkCode, checked}
+use Rattle.rates.specs.declared.Checked.{Checked}
+use Rattle.engine.proofs.Parameters.{codes}
+use Rattle.engine.proofs.Gates.{tables-refused, tables-passed}
+use Rattle.engine.proofs.gate.table_gate.Statement.{statement}
+use Rattle.engine.proofs.gate.table_gate.Tie as tie
+
+code-is : (c : tie.After-check-tables) → let a = c .before .before .args in c .check-tables .result .code ≡ checkCode (a .clearing .now) (a .own .now) (a .groups .now)
+unfolding checked
+code-is c = ap (λ (r : Checked). r .code) (c .check-tables .ensures)
+
+returns : tie.Need-returns
+returns c = search codes
+
+check-tables-requires : tie.Need-check-tables-requires
+check-tables-requires c κs = search needs
+
+returns-2 : tie.Need-returns-2
+returns-2 c = let a = c .before .before .before .args in
+    code-is (c .before)
+    ∙ tables-refused (a .book .now) _ _ _ (a .account) (c .before .before .if1 .left) (λ e. c .if2 .taken (code-is (c .before) ∙ e))
+
+lies-between-requires : tie.Need-lies-between-requires
+lies-between-requires c κs = search needs
+
+returns-3 : tie.Need-returns-3
+returns-3 c = let k = c .before .before .before in let a = k .before .before .args in
+    tables-passed (a .book .now) _ _ _ (a .account) (k .before .if1 .left) (sym (code-is k) ∙ c .before .before .if2 .left) (hit (search codes))
+
+returns-4 : tie.Need-returns-4
+returns-4 c = let k = c .before .before .before in let a = k .before .before .args in
+    tables-passed (a .book .now) _ _ _ (a .account) (k .before .if1 .left) (sym (code-is k) ∙ c .before .before .if2 .left) (miss (search codes) none)
+
+pub table-gate-spec : {M : Type 1} → statement M
+table-gate-spec =
+    tie.close
+    (tie.spec returns check-tables-requires returns-2 lies-between-requires returns-3 returns-4)
