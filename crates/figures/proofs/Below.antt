@@ -17,7 +17,7 @@ use Rattle.whole.proofs.PlusMinus.{abs-is, one-is-zero}
 use Rattle.whole.proofs.Expressions.{var, lit, _⊕_, _⊖_, _⊓_, le!, is}
 use Rattle.whole.proofs.Numbers.{≤ℤ-trans}
 use Rattle.whole.proofs.Bounds.{upto-within}
-use Rattle.whole.proofs.Sums.{sum-le, sum-within, sum-from-zero}
+use Rattle.whole.proofs.Sums.{sum-le, sum-within, sum-from-zero, sum-swap}
 use Rattle.whole.proofs.Tabulated.{tabulated-at}
 use Rattle.whole.proofs.Rules.{ints}
 use Rattle.rates.specs.InForce.{inForce}
@@ -28,7 +28,6 @@ use Rattle.figures.specs.Risk.{positionSum, marketRisk, interestRisk}
 use Rattle.figures.specs.Limit.{longRisk, shortRisk, groupOf, inGroup, totalsOf, discountOf, discount, singleLimit, figuresOf, rublesOf, assetIn, blockFigures}
 use Rattle.figures.specs.declared.Asset.{Asset}
 use Rattle.figures.specs.declared.Figures.{Figures}
-use Rattle.figures.proofs.Sums.{sum-swap}
 use Rattle.figures.proofs.Discount.{discount-from-zero, discount-below}
 use Rattle.figures.proofs.Sizes.{market-size, interest-size, asset-units, asset-worth}
 

@@ -3,7 +3,7 @@
 use mathlib.Core.Path.{_≡_, sym, ap, ap₂, _∙_, subst}
 use Prim.Native.Nat.{ℕ, _*_, _<_, _^_}
 use native.Mathlib.Omega.{arith}
-use lib.IntN.{ℤ, pos, _+ℤ_, _-ℤ_, _*ℤ_}
+use lib.IntN.{ℤ, pos, _+ℤ_, _-ℤ_, _*ℤ_, *ℤ-zero}
 use lib.Signed.{_≤ℤ_}
 use Rattle.whole.specs.Numbers.{minℤ, maxℤ}
 use Rattle.whole.specs.Bounds.{_upto_}
@@ -11,7 +11,6 @@ use Rattle.whole.proofs.Expressions.{var, lit, neg, _⊕_, _⊖_, _⊛_, _⊓_,
 use Rattle.whole.proofs.Numbers.{≤ℤ-trans, +ℤ-mono, *ℤ-mono, *ℤ-monoʳ, *ℤ-step, *ℤ-distribˡ}
 use Rattle.whole.proofs.Rules.{ints}
 use Rattle.figures.specs.Risk.{charge, long, short}
-use Rattle.figures.proofs.Numbers.{*ℤ-zero}
 
 -- 0 at 0, never falls, grows by at most W for each unit
 pub record Slope (W : ℤ) (F : ℤ → ℤ) : Type 0 where

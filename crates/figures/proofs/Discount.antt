@@ -14,7 +14,7 @@ use Rattle.whole.proofs.Rules.{ints}
 use Rattle.rates.specs.Ranges.{TableRanges}
 use Rattle.figures.specs.Limit.{discountOf}
 use Rattle.figures.specs.Ranges.{PercentRanges}
-use Rattle.figures.proofs.Numbers.{product-upto}
+use Rattle.whole.proofs.InRange.{product-upto}
 
 -- the percents of groups that pass the check
 pub percent-ranges : {clearing own groups : List ℤ} → TableRanges clearing own groups → PercentRanges groups

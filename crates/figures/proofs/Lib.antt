@@ -1,6 +1,4 @@
 -- Laws of what specs/ defines: C' and the positions, the charge, the two sides of a position, the discount, the sums over the assets, and sizes.
-pub mod Numbers
-pub mod Sums
 pub mod Counted
 pub mod Growth
 pub mod Positions

@@ -18,7 +18,7 @@ use Rattle.rates.specs.Ranges.{RowRanges}
 use Rattle.rates.specs.InForce.{outerWidth}
 use Rattle.figures.specs.Collateral.{special}
 use Rattle.figures.specs.Risk.{long, short, charge, marketCharge, sideRisk, positionSum, longSum, shortSum, marketRisk, fallCharge, riseCharge, interestOf}
-use Rattle.figures.proofs.Numbers.{product-upto}
+use Rattle.whole.proofs.InRange.{product-upto}
 use Rattle.figures.proofs.Charge.{Slope, charge-slope, slope-upto, signed-mono, signed-step}
 
 -- ---- the two sides of a number: one is its size, the other 0

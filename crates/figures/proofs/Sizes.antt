@@ -18,7 +18,7 @@ use Rattle.whole.proofs.PlusMinus.{abs-is, one-is-zero}
 use Rattle.whole.proofs.Expressions.{var, lit, neg, _⊖_, _⊓_, _⊔_, is}
 use Rattle.whole.proofs.Numbers.{<ℤ-or-≥ℤ}
 use Rattle.whole.proofs.Bounds.{upto-within, product-within}
-use Rattle.whole.proofs.Sums.{sum-within, sum-from-zero}
+use Rattle.whole.proofs.Sums.{sum-within, sum-from-zero, sum-first}
 use Rattle.whole.proofs.Tabulated.{tabulated-at}
 use Rattle.whole.proofs.Rules.{ints}
 use Rattle.rates.specs.Row.{kind, poolShare, coveredSales, fall, rise}
@@ -32,8 +32,7 @@ use Rattle.figures.specs.Risk.{long, short, positionSum, longSum, shortS
 use Rattle.figures.specs.Ranges.{ShareRange}
 use Rattle.figures.specs.declared.Regime.{Regime}
 use Rattle.figures.specs.declared.Regime.the-variants.{Special, NotRecorded, Partial, Accepted}
-use Rattle.figures.proofs.Numbers.{neg-size, upto-size, zero-upto, max-upto, choice-upto}
-use Rattle.figures.proofs.Sums.{sum-first}
+use Rattle.whole.proofs.InRange.{neg-size, upto-size, zero-upto, max-upto, choice-upto}
 use Rattle.figures.proofs.Counted.{adjusted-within}
 use Rattle.figures.proofs.Positions.{position-within, position-later-within}
 use Rattle.figures.proofs.Charge.{slope-upto}

@@ -13,3 +13,4 @@ pub mod Marks
 pub mod Refusals
 pub mod Tabulated
 pub mod Lists
+pub mod InRange

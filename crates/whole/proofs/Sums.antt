@@ -58,6 +58,25 @@ sum-one (suc n) a f g l h =
         eq! (var (Σ< n g) ⊕ var (g n) ⊕ var (f a)) (var (Σ< n f) ⊕ var (f n) ⊕ var (g a))
         (omega (ints, eq? (var (Σ< n g) ⊕ var (f a)) (var (Σ< n f) ⊕ var (g a)) i))
 
+sum-zero : (n : ℕ) → Σ< n (λ _. pos 0) ≡ pos 0
+unfolding Σ<
+sum-zero zero = refl
+sum-zero (suc n) = rw (sum-zero n) refl
+
+pub sum-swap : (n m : ℕ) (f : ℕ → ℕ → ℤ) → Σ< n (λ i. Σ< m (f i)) ≡ Σ< m (λ j. Σ< n (λ i. f i j))
+unfolding Σ<
+sum-swap zero m f = sym (sum-zero m)
+sum-swap (suc n) m f = ap (λ (z : ℤ). z +ℤ Σ< m (f n)) (sum-swap n m f) ∙ sym (sum-add m (λ j. Σ< n (λ i. f i j)) (f n))
+
+pub sum-first : (n A B : ℕ) (f : ℕ → ℤ) → natAbs (f 0) ≤ A + B → ((j : ℕ) → j < n → natAbs (f (suc j)) ≤ B) → natAbs (Σ< (suc n) f) ≤ A + suc n * B
+unfolding Σ<
+sum-first zero A B f z h = let a = abs-add (pos 0) (f 0) in omega arith
+sum-first (suc n) A B f z h =
+    let i = sum-first n A B f z (λ j l. h j (omega arith)) in
+    let a = abs-add (Σ< (suc n) f) (f (suc n)) in
+    let b = h n (omega arith) in
+    omega arith
+
 -- bounds
 sum-size : (B n : ℕ) (f : ℕ → ℤ) → ((j : ℕ) → j < n → f j within B) → natAbs (Σ< n f) ≤ n * B
 unfolding Σ<

@@ -8,7 +8,7 @@ use Rattle.whole.proofs.Expressions.{Expression, var, _⊕_}
 use Rattle.whole.proofs.Machine.{Runs, need!, runs}
 use Rattle.whole.proofs.Bounds.{upto-within}
 use Rattle.figures.specs.Limit.{addedTo}
-use Rattle.figures.proofs.Numbers.{sum-runs}
+use Rattle.whole.proofs.InRange.{sum-runs}
 use Rattle.figures.proofs.limit.added_to.Statement.{statement}
 use Rattle.figures.proofs.limit.added_to.Tie as tie
 

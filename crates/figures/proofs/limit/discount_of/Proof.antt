@@ -15,7 +15,7 @@ use Rattle.whole.proofs.Expressions.{Expression, var, lit, _⊛_, is}
 use Rattle.whole.proofs.Machine.{Runs, need!, runs, clean₂}
 use Rattle.whole.proofs.Rules.{ints}
 use Rattle.figures.specs.Limit.{discountOf}
-use Rattle.figures.proofs.Numbers.{product-upto}
+use Rattle.whole.proofs.InRange.{product-upto}
 use Rattle.figures.proofs.Discount.{twice-upto, discount-upto}
 use Rattle.figures.proofs.limit.discount_of.Statement.{statement}
 use Rattle.figures.proofs.limit.discount_of.Tie as tie

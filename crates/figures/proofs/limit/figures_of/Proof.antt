@@ -6,7 +6,7 @@ use borrow.Author.Needs.{needs}
 use Rattle.whole.proofs.Expressions.{Expression, var, _⊕_}
 use Rattle.whole.proofs.Machine.{Runs, need!, runs}
 use Rattle.figures.specs.Limit.{discount, singleLimit, figuresOf}
-use Rattle.figures.proofs.Numbers.{upto-back, sum-runs, sum-held}
+use Rattle.whole.proofs.InRange.{upto-back, sum-runs, sum-held}
 use Rattle.figures.proofs.limit.figures_of.Statement.{statement}
 use Rattle.figures.proofs.limit.figures_of.Tie as tie
 

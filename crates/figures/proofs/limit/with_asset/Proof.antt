@@ -15,7 +15,7 @@ use Rattle.whole.proofs.Machine.{Runs, need!, runs}
 use Rattle.whole.proofs.Bounds.{upto-within}
 use Rattle.figures.specs.Limit.{longRisk, shortRisk, addedTo, withAsset}
 use Rattle.figures.specs.Ranges.{TotalRanges}
-use Rattle.figures.proofs.Numbers.{sum-runs}
+use Rattle.whole.proofs.InRange.{sum-runs}
 use Rattle.figures.proofs.Steps.{ranges-step}
 use Rattle.figures.proofs.limit.with_asset.Statement.{statement}
 use Rattle.figures.proofs.limit.with_asset.Tie as tie

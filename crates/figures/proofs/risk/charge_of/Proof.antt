@@ -11,7 +11,7 @@ use Rattle.whole.proofs.Expressions.{Expression, var, _⊕_, _⊖_, _⊛_, is}
 use Rattle.whole.proofs.Machine.{Runs, need!, runs, clean₂}
 use Rattle.whole.proofs.Rules.{ints}
 use Rattle.figures.specs.Risk.{charge}
-use Rattle.figures.proofs.Numbers.{product-upto}
+use Rattle.whole.proofs.InRange.{product-upto}
 use Rattle.figures.proofs.Charge.{charge-slope, slope-upto}
 use Rattle.figures.proofs.risk.charge_of.Statement.{statement}
 use Rattle.figures.proofs.risk.charge_of.Tie as tie

@@ -7,7 +7,7 @@ use mir.Facts.{toZ-ofZ}
 use borrow.Author.Needs.{needs}
 use Rattle.whole.specs.Bounds.{_upto_}
 use Rattle.figures.specs.Risk.{charge, fallCharge}
-use Rattle.figures.proofs.Numbers.{upto-wider, upto-back}
+use Rattle.whole.proofs.InRange.{upto-wider, upto-back}
 use Rattle.figures.proofs.Charge.{slope-upto}
 use Rattle.figures.proofs.Sides.{width-below, fall-slope}
 use Rattle.figures.proofs.risk.fall_charge.Statement.{statement}

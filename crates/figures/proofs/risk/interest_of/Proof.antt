@@ -10,7 +10,7 @@ use Rattle.whole.specs.Parts.{number}
 use Rattle.whole.specs.Bounds.{_within_}
 use Rattle.whole.proofs.Rules.{ints}
 use Rattle.figures.specs.Risk.{fallCharge, riseCharge}
-use Rattle.figures.proofs.Numbers.{negated}
+use Rattle.whole.proofs.InRange.{negated}
 use Rattle.figures.proofs.Sides.{interest-long, interest-short}
 use Rattle.figures.proofs.risk.interest_of.Statement.{statement}
 use Rattle.figures.proofs.risk.interest_of.Tie as tie

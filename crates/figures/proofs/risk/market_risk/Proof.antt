@@ -15,7 +15,7 @@ use Rattle.whole.proofs.Tests.{passed, failed}
 use Rattle.rates.specs.Row.{fall, rise}
 use Rattle.figures.specs.Collateral.{special}
 use Rattle.figures.specs.Risk.{positionSum, sideRisk}
-use Rattle.figures.proofs.Numbers.{negated}
+use Rattle.whole.proofs.InRange.{negated}
 use Rattle.figures.proofs.Sides.{market-special, market-long, market-short}
 use Rattle.figures.proofs.risk.market_risk.Statement.{statement}
 use Rattle.figures.proofs.risk.market_risk.Tie as tie

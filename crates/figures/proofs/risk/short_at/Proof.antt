@@ -6,7 +6,7 @@ use mir.Facts.{toZ-ofZ}
 use borrow.Author.Needs.{needs}
 use Rattle.whole.specs.Numbers.{maxℤ}
 use Rattle.whole.proofs.Rules.{ints}
-use Rattle.figures.proofs.Numbers.{negated}
+use Rattle.whole.proofs.InRange.{negated}
 use Rattle.figures.proofs.risk.short_at.Statement.{statement}
 use Rattle.figures.proofs.risk.short_at.Tie as tie
 

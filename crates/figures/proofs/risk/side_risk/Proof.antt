@@ -15,7 +15,7 @@ use Rattle.whole.proofs.Machine.{Runs, need!, runs}
 use Rattle.whole.proofs.Rules.{ints}
 use Rattle.rates.specs.Row.{price, baseRate, raisedRate, marketLimit}
 use Rattle.figures.specs.Risk.{charge, marketCharge, sideRisk}
-use Rattle.figures.proofs.Numbers.{product-upto, upto-wider, upto-back}
+use Rattle.whole.proofs.InRange.{product-upto, upto-wider, upto-back}
 use Rattle.figures.proofs.Charge.{slope-upto}
 use Rattle.figures.proofs.Sides.{side-slope, side-upto}
 use Rattle.figures.proofs.risk.side_risk.Statement.{statement}

@@ -1,5 +1,4 @@
--- Laws of whole numbers and their bounds that crate `whole` does not have yet: nothing times a number, the size of a negative, products, greater
--- and choices in range, and what code makes of a sign or a sum.
+-- Laws of numbers in range: products, the greater and choices of numbers from 0 to k, and what code makes of a sign or of a sum.
 -- Assumes nothing.
 use mathlib.Core.Path.{_≡_, sym, ap, _∙_, subst}
 use mathlib.Core.Bool.{Bool, true, false, cond}
@@ -10,16 +9,13 @@ use lib.Signed.{_≤ℤ_}
 use mir.Syntax.{w64}
 use mir.Val.{SFits}
 use mir.Facts.{toZ-ofZ}
 use Rattle.whole.specs.Numbers.{maxℤ}
 use Rattle.whole.specs.Bounds.{_within_, _upto_}
 use Rattle.whole.proofs.PlusMinus.{abs-is, one-is-zero}
-use Rattle.whole.proofs.Expressions.{var, lit, neg, _⊕_, _⊛_, _⊔_, eq!, is}
+use Rattle.whole.proofs.Expressions.{var, neg, _⊕_, _⊔_, is}
 use Rattle.whole.proofs.Machine.{Runs, back, held, runs}
 use Rattle.whole.proofs.Numbers.{≤ℤ-trans, *ℤ-mono, *ℤ-monoʳ, *ℤ-nonneg}
 use Rattle.whole.proofs.Rules.{ints}
-
-pub *ℤ-zero : (x : ℤ) → x *ℤ pos 0 ≡ pos 0
-*ℤ-zero x = eq! (var x ⊛ lit 0) (lit 0) (omega arith)
 
 pub neg-size : (x : ℤ) → natAbs (negℤ x) ≡ natAbs x
 neg-size x = omega (arith, is (neg (var x)), abs-is x, abs-is (negℤ x), one-is-zero x, one-is-zero (negℤ x))
