@@ -5,4 +5,3 @@ pub mod Gates
 pub mod Lent
 pub mod Reports
 pub mod Allowed
-pub mod Alone

@@ -15,12 +15,14 @@ use Rattle.whole.proofs.Refusals.{kept}
 use Rattle.book.specs.Block.{blockOf, putBlock}
 use Rattle.book.specs.Changes.{opened, moved, traded}
 use Rattle.book.proofs.Blocks.{block-length, block-put, block-put-other}
-use Rattle.engine.specs.Refused.{bookGate, tableGate, openRefusals, moveRefusals, orderRefusals, tradeOf}
-use Rattle.engine.specs.Calls.{Outcome, outcome, openOutcome, moveOutcome, orderOutcome}
+use Rattle.engine.specs.Refused.{bookGate, tableGate, openRefusals, rollRefusals, moveRefusals, orderRefusals, tradeOf}
+use Rattle.engine.specs.Calls.{Outcome, outcome, openOutcome, rollOutcome, moveOutcome, orderOutcome}
 use Rattle.engine.specs.Report.{reportOf}
 use Rattle.engine.proofs.Gates.{book-passed, table-passed}
 use Rattle.engine.proofs.Parameters.{index-is}
+use Rattle.book.specs.Roll.{rolled}
 use Rattle.book.proofs.Moved.{moved-length}
+use Rattle.book.proofs.Rolled.{rolled-length}
 use Rattle.book.proofs.Traded.{traded-length}
 
 -- two answers that one contract allows
@@ -38,7 +40,7 @@ pub record Call : Type 0 where
 pub record Lawful (call : Call) : Type 0 where
   pub by-length : (book other : List ℤ) → length book ≡ length other → call .gate book ≡ call .gate other
   pub lets-through : (book : List ℤ) → firstCode (call .gate book) ≡ 0 → (length book ≡ 4608) × (natAbs (call .account) < 16)
-  pub keeps-length : (block : List ℤ) → length (call .change block) ≡ length block
+  pub keeps-length : (block : List ℤ) → length block ≡ 288 → length (call .change block) ≡ 288
 
 abbrev pub ownBlock : Call → List ℤ → List ℤ
 ownBlock call book = blockOf book (natAbs (call .account))
@@ -68,7 +70,7 @@ module _ (call : Call) (book : List ℤ) where
     there e = lawful .lets-through book (first-zero (call .gate book) (call .past (ownBlock call book)) e)
 
     new-length : outcomeOf call book .code ≡ 0 → length new ≡ 288
-    new-length e = lawful .keeps-length (ownBlock call book) ∙ block-length book (there e .0) at (there e .1)
+    new-length e = lawful .keeps-length (ownBlock call book) (block-length book (there e .0) at (there e .1))
 
     pub others-stay : (j : ℕ) → j < 16 → (j ≡ at → ⊥) → blockOf (outcomeOf call book .book) j ≡ blockOf book j
     unfolding leaves
@@ -98,6 +100,9 @@ module _ (call : Call) (lawful : Lawful call) (book other : List ℤ) (long : le
       ∙ sym (own-after call other lawful)
 
 -- ---- the calls
+book-lets-through : (account : ℤ) (book : List ℤ) → firstCode (bookGate book account) ≡ 0 → (length book ≡ 4608) × (natAbs account < 16)
+book-lets-through account book e = let p = book-passed book account e in (p .long, let h = index-is account 15 (p .account-right) in omega arith)
+
 module _ (account kind : ℤ) where
   abbrev pub opening : Call
   opening = record { account = account; gate = λ book. bookGate book account; past = λ b. openRefusals b kind; change = λ b. opened b kind }
@@ -110,9 +115,20 @@ module _ (account kind : ℤ) where
   unfolding opened
   open-lawful = record {
     by-length = λ book other e. rw e refl;
-    lets-through = λ book e. let p = book-passed book account e in (p .long, let h = index-is account 15 (p .account-right) in omega arith);
-    keeps-length = λ b. length-set b 0 kind;
+    lets-through = book-lets-through account;
+    keeps-length = λ b l. length-set b 0 kind ∙ l;
   }
+
+module _ (account : ℤ) where
+  abbrev pub rolling : Call
+  rolling = record { account = account; gate = λ book. bookGate book account; past = rollRefusals; change = rolled }
+
+  pub roll-is : (book : List ℤ) → rollOutcome book account ≡ outcomeOf rolling book
+  unfolding rollOutcome
+  roll-is book = refl
+
+  pub roll-lawful : Lawful rolling
+  roll-lawful = record { by-length = λ book other e. rw e refl; lets-through = book-lets-through account; keeps-length = rolled-length }
 
 module _ (clearing own groups : List ℤ) (account : ℤ) where
   table-lets-through : (book : List ℤ) → firstCode (tableGate book clearing own groups account) ≡ 0 → (length book ≡ 4608) × (natAbs account < 16)
@@ -136,7 +152,7 @@ module _ (clearing own groups : List ℤ) (account : ℤ) where
     move-lawful = record {
       by-length = λ book other e. rw e refl;
       lets-through = table-lets-through;
-      keeps-length = λ b. moved-length b (natAbs asset) amount;
+      keeps-length = λ b l. moved-length b (natAbs asset) amount ∙ l;
     }
 
   module _ (asset date side quantity money : ℤ) where
@@ -156,7 +172,7 @@ module _ (clearing own groups : List ℤ) (account : ℤ) where
     order-lawful = record {
       by-length = λ book other e. rw e refl;
       lets-through = table-lets-through;
-      keeps-length = λ b. traded-length b (tradeOf asset date side quantity money);
+      keeps-length = λ b l. traded-length b (tradeOf asset date side quantity money) ∙ l;
     }
 
   -- a report

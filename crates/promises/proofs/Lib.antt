@@ -1,0 +1,2 @@
+-- What a reader wants to know of every call.
+pub mod Calls
