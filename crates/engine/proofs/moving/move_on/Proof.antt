@@ -44,7 +44,7 @@ same-length c = search needs
 
 returns : tie.Need-returns
 returns c = let s = c .before .before .before in
-    (stops (of-block s) (of-numbers s ++ of-move s) (c .before .holding-code .ensures) (c .if1 .taken), kept _ _ _ (c .if1 .taken))
+    (stops (of-block s) _ (c .before .holding-code .ensures) (c .if1 .taken), kept _ _ _ (c .if1 .taken))
 
 move-numbers-requires : tie.Need-move-numbers-requires
 move-numbers-requires c κs = search needs

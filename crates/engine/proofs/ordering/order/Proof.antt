@@ -1,5 +1,5 @@
 -- `ordering::order` meets its contract: the gate refuses, or the block answers. Assumes nothing.
-use mathlib.Core.Path.{_≡_, sym, _∙_}
+use mathlib.Core.Path.{_≡_, sym, ap, _∙_}
 use mathlib.Core.List.{List}
 use Prim.Native.Nat.{_<_}
 use lib.IntN.{ℤ, natAbs}
@@ -34,7 +34,7 @@ passed : (c : tie.Else1) → let a = c .before .before .before .args in TablePas
 passed c = let a = c .before .before .before .args in table-passed (a .book .now) (a .clearing .now) (a .own .now) (a .groups .now) (a .account) (gate-passed c)
 
 placed : (c : tie.After-place) → (c .place .result ≡ natAbs (c .before .before .before .before .args .account)) × (c .place .result < 16)
-placed c = simp (toZ-ofZ (c .before .before .before .before .fits .account)) at (c .place .ensures)
+placed c = (c .place .ensures .0 ∙ ap natAbs (toZ-ofZ (c .before .before .before .before .fits .account)), c .place .ensures .1)
 
 table-gate-requires : tie.Need-table-gate-requires
 table-gate-requires c κs = search needs

@@ -61,7 +61,7 @@ same-length c = search needs
 
 returns : tie.Need-returns
 returns c = let s = c .before .before .before in
-    (stops (of-block s) (of-numbers s ++ of-trade s) (c .before .holding-code .ensures) (c .if1 .taken), kept _ _ _ (c .if1 .taken))
+    (stops (of-block s) _ (c .before .holding-code .ensures) (c .if1 .taken), kept _ _ _ (c .if1 .taken))
 
 order-numbers-requires : tie.Need-order-numbers-requires
 order-numbers-requires c κs = search needs
