@@ -42,7 +42,7 @@ fn report_on<'a>(block: &[i64], clearing: &'a [i64], own: &'a [i64], groups: &[i
     Reported { code: 0, figures }
 }
 
-// Reported an account: its code and five figures.
+// Report an account: its code and five figures.
 pub fn report<'a>(
     book: &[i64],
     clearing: &'a [i64],
