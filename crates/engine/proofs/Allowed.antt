@@ -11,11 +11,11 @@ use Rattle.whole.specs.Refusals.{firstCode}
 use Rattle.whole.proofs.Bounds.{amid, between-yes, equal-says, upto-by}
 use Rattle.whole.proofs.Refusals.{none-holds}
 use Rattle.whole.proofs.Rules.{ints}
-use Rattle.whole.proofs.Tests.{and-left, and-right}
+use Rattle.whole.proofs.Tests.{and-left, and-right, or-cases, or-holds}
 use Rattle.rates.specs.Tables.{listed}
 use Rattle.book.specs.Ranges.{TradeRanges, MoveAsset}
 use Rattle.engine.specs.Refused.{assetRight, orderNumbers, tradeOf, rubles, moveRight, moveNumbers}
-use Rattle.engine.proofs.Parameters.{index-is, or-cases, or-holds}
+use Rattle.engine.proofs.Parameters.{index-is}
 
 asset-between : (clearing : List ℤ) (asset : ℤ) → assetRight clearing asset ≡ true → between (pos 0) asset (pos 15) ≡ true
 asset-between clearing asset e = and-left (between (pos 0) asset (pos 15)) (listed clearing (natAbs asset)) e

@@ -9,7 +9,7 @@ use lib.Dec.{eqb}
 use borrow.Author.Tests.{eq-eqb, eqb-true, not-false}
 use Rattle.whole.specs.Bounds.{isZero}
 use Rattle.whole.specs.Refusals.{Refusal, _gives_, firstCode}
-use Rattle.whole.proofs.Refusals.{Code, none, miss, code, testAt, none-holds}
+use Rattle.whole.proofs.Refusals.{Code, none, miss, code, testAt, none-holds, stops, follows}
 use Rattle.whole.proofs.Tests.{and-left, and-right}
 use Rattle.rates.specs.Tables.{lengthsRight, soundTables, checkCode}
 use Rattle.rates.specs.Ranges.{TableRanges}
@@ -17,7 +17,6 @@ use Rattle.rates.proofs.Sound.{ranges}
 use Rattle.book.specs.Block.{accountKind}
 use Rattle.book.specs.Rules.{goodBlock, holdsListed}
 use Rattle.engine.specs.Refused.{accountRight, bookGate, tableGate, holdingRefusals}
-use Rattle.engine.proofs.InTurn.{stops, follows}
 
 -- the refusals of the table check, and then the account's
 module _ (book clearing own groups : List ℤ) (account : ℤ) (long : length book ≡ 4608) where

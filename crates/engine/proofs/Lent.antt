@@ -8,11 +8,10 @@ use lib.Dec.{T, eqb}
 use lib.IntN.{ℤ, natAbs}
 use lib.ListN.{length, take, drop}
 use Rattle.whole.specs.Refusals.{Refusal, firstCode, leaves}
-use Rattle.whole.proofs.Refusals.{coded, kept}
+use Rattle.whole.proofs.Refusals.{coded, kept, stops, follows}
 use Rattle.book.specs.Block.{blockOf, putBlock}
 use Rattle.book.proofs.Blocks.{lent-block, back-block, block-length, put-same-block}
 use Rattle.engine.specs.Calls.{Outcome, outcome}
-use Rattle.engine.proofs.InTurn.{stops, follows}
 
 -- a code and a book that are right make an outcome that is right
 pub same-outcome : {n m : ℕ} {b d : List ℤ} → n ≡ m → b ≡ d → _≡_ {A = Outcome} (record { code = n; book = b }) (record { code = m; book = d })

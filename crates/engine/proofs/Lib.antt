@@ -1,6 +1,5 @@
 -- The laws that the proofs of the calls share, and what a reader wants to know of every call.
 pub mod Parameters
-pub mod InTurn
 pub mod Gates
 pub mod Lent
 pub mod Reports

@@ -2,8 +2,7 @@
 -- which `search codes` finds a code from the tests that were made.
 -- Assumes nothing.
 use mathlib.Core.Path.{_≡_, refl, sym, ap, _∙_}
-use mathlib.Core.Logic.{_⊎_, inl, inr}
-use mathlib.Core.Bool.{Bool, true, false, not, _||_}
+use mathlib.Core.Bool.{Bool, true, false, not}
 use Prim.Native.Nat.{ℕ, _≤_, _<_, _^_}
 use native.Mathlib.Omega.{arith}
 use lib.Dec.{T}
@@ -19,7 +18,7 @@ use Rattle.whole.proofs.Machine.{back}
 use Rattle.whole.proofs.PlusMinus.{abs-is, one-is-zero}
 use Rattle.whole.proofs.Refusals.{none, hit, miss, code}
 use Rattle.whole.proofs.Rules.{ints}
-use Rattle.whole.proofs.Tests.{tests, left, taken}
+use Rattle.whole.proofs.Tests.{tests, left, taken, denied, refuted, either-left, either-right, neither}
 
 -- ---- what a test of a parameter said
 pub heard : {r : Bool} {x : ℤ} (low high : ℤ) → SFits w64 x → r ≡ between low (back x) high → r ≡ between low x high
@@ -31,37 +30,6 @@ module _ {r : Bool} {x : ℤ} (low high : ℤ) (f : SFits w64 x) (e : r ≡ betw
 
   pub out-of-range : not r ≡ true → between low x high ≡ false
   out-of-range = taken (heard low high f e)
-
--- ---- a refusal's own test
-pub denied : {b : Bool} → b ≡ true → not b ≡ false
-denied e = ap not e
-
-pub refuted : {b : Bool} → b ≡ false → not b ≡ true
-refuted e = ap not e
-
-pub either-left : (a b : Bool) → a ≡ true → a || b ≡ true
-either-left a b e = rw e refl
-
-pub either-right : (a b : Bool) → b ≡ true → a || b ≡ true
-either-right true b e = refl
-either-right false b e = e
-
-pub neither : (a b : Bool) → a ≡ false → b ≡ false → a || b ≡ false
-neither a b e f = rw (e, f) refl
-
--- what `||` says
-pub or-cases : (a b : Bool) → a || b ≡ true → (a ≡ true) ⊎ (b ≡ true)
-or-cases true b e = inl refl
-or-cases false b e = inr e
-
-pub or-left-off : (a b : Bool) → a || b ≡ false → a ≡ false
-or-left-off true b e = e
-or-left-off false b e = refl
-
-pub or-holds : (a b : Bool) → (b ≡ true → a ≡ true) → a ≡ a || b
-or-holds true b h = refl
-or-holds false true h = h refl
-or-holds false false h = refl
 
 pub ruleset codes = (tests, code, hit, miss, none, in-range, out-of-range, eq-eqb, ne-eqb, denied, refuted, either-left, either-right, neither)
 

@@ -5,13 +5,12 @@ use Prim.Native.Nat.{ℕ}
 use lib.Dec.{T}
 use lib.IntN.{ℤ, natAbs}
 use Rattle.whole.specs.Refusals.{Refusal, firstCode, leaves}
-use Rattle.whole.proofs.Refusals.{coded, goes-on, kept, changed}
+use Rattle.whole.proofs.Refusals.{coded, goes-on, kept, changed, stops}
 use Rattle.book.specs.Block.{blockOf}
 use Rattle.book.proofs.Blocks.{lent-block}
 use Rattle.figures.specs.declared.Figures.{Figures}
 use Rattle.engine.specs.Report.{noFigures}
 use Rattle.engine.specs.declared.Reported.{Reported}
-use Rattle.engine.proofs.InTurn.{stops}
 use Rattle.engine.proofs.Lent.{lent}
 
 abbrev pub answerOf : ℕ → Figures → Reported

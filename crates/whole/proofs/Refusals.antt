@@ -1,7 +1,7 @@
 -- Laws of lists of refusals, over any list and place: a chain of tests that stops at the first refusal, one list after another, and what a
 -- call leaves behind it.
 -- Assumes nothing.
-use mathlib.Core.Path.{_≡_, refl}
+use mathlib.Core.Path.{_≡_, refl, sym, _∙_}
 use mathlib.Core.Bool.{Bool, true, false}
 use mathlib.Core.List.{List, [], _∷_, _++_}
 use Prim.Native.Nat.{ℕ, zero, suc}
@@ -54,6 +54,14 @@ goes-on [] b c e = refl
 goes-on (t gives zero ∷ a) b c e = absurd c
 goes-on (true gives suc k ∷ a) b c e = absurd (omega arith)
 goes-on (false gives suc k ∷ a) b c e = goes-on a b c e
+
+-- as a call answers them: the first list's code where it is not 0, else the second's
+module _ {n : ℕ} (a b : List Refusal) where
+  pub stops : n ≡ firstCode a → (n ≡ 0 → ⊥) → n ≡ firstCode (a ++ b)
+  stops e h = e ∙ sym (refused a b (λ z. h (e ∙ z)))
+
+  pub follows : T (coded a) → firstCode a ≡ 0 → n ≡ firstCode b → n ≡ firstCode (a ++ b)
+  follows c z e = e ∙ sym (goes-on a b c z)
 
 -- ---- what a call leaves
 pub kept : {A : Type 0} (n : ℕ) (new old : A) → (n ≡ 0 → ⊥) → old ≡ leaves n new old

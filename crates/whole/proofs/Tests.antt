@@ -2,6 +2,7 @@
 -- the branch was taken or left; and how `&&`, `||` and `not` join such facts.
 -- Assumes nothing.
 use mathlib.Core.Path.{_≡_, refl, sym, ap, _∙_}
+use mathlib.Core.Logic.{_⊎_, inl, inr}
 use mathlib.Core.Bool.{Bool, true, false, not, cond, _&&_, _||_}
 use Prim.Native.Nat.{ℕ}
 use native.Mathlib.Omega.{arith}
@@ -55,3 +56,34 @@ where-so a b e = rw e refl
 
 pub where-not : (a b : Bool) → a ≡ false → true ≡ not a || b
 where-not a b e = rw e refl
+
+-- ---- a refusal's own test: `not` and `||` of tests that were made
+pub denied : {b : Bool} → b ≡ true → not b ≡ false
+denied e = ap not e
+
+pub refuted : {b : Bool} → b ≡ false → not b ≡ true
+refuted e = ap not e
+
+pub either-left : (a b : Bool) → a ≡ true → a || b ≡ true
+either-left a b e = rw e refl
+
+pub either-right : (a b : Bool) → b ≡ true → a || b ≡ true
+either-right true b e = refl
+either-right false b e = e
+
+pub neither : (a b : Bool) → a ≡ false → b ≡ false → a || b ≡ false
+neither a b e f = rw (e, f) refl
+
+-- what `||` says
+pub or-cases : (a b : Bool) → a || b ≡ true → (a ≡ true) ⊎ (b ≡ true)
+or-cases true b e = inl refl
+or-cases false b e = inr e
+
+pub or-left-off : (a b : Bool) → a || b ≡ false → a ≡ false
+or-left-off true b e = e
+or-left-off false b e = refl
+
+pub or-holds : (a b : Bool) → (b ≡ true → a ≡ true) → a ≡ a || b
+or-holds true b h = refl
+or-holds false true h = h refl
+or-holds false false h = refl

@@ -13,16 +13,15 @@ use borrow.Author.Needs.{needs, sfits-of}
 use Rattle.whole.specs.Bounds.{_within_}
 use Rattle.whole.specs.Refusals.{_gives_, leaves}
 use Rattle.whole.proofs.Machine.{back}
-use Rattle.whole.proofs.Refusals.{none, hit, miss, code, none-holds, kept, changed}
-use Rattle.whole.proofs.Tests.{both, first-out, second-out}
+use Rattle.whole.proofs.Refusals.{none, hit, miss, code, none-holds, kept, changed, stops}
+use Rattle.whole.proofs.Tests.{both, first-out, second-out, or-left-off}
 use Rattle.book.specs.Rules.{inBounds}
 use Rattle.book.specs.Changes.{moved, overdrawn, moveCode}
 use Rattle.book.specs.Ranges.{BlockRanges}
 use Rattle.figures.specs.declared.Figures.{Figures}
 use Rattle.figures.specs.Limit.{blockFigures}
 use Rattle.engine.specs.Refused.{limitOf}
-use Rattle.engine.proofs.InTurn.{stops}
-use Rattle.engine.proofs.Parameters.{negative, or-left-off}
+use Rattle.engine.proofs.Parameters.{negative}
 use Rattle.book.proofs.Good.{good-in-bounds, block-ranges}
 use Rattle.book.proofs.Moved.{moved-length, moved-good, moved-back}
 use Rattle.engine.proofs.moving.judge_move.Statement.{statement}

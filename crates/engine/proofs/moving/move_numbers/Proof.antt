@@ -5,9 +5,9 @@ use mathlib.Core.Bool.{true, not, _||_}
 use mir.Facts.{toZ-ofZ}
 use borrow.Author.Needs.{needs}
 use Rattle.whole.proofs.Refusals.{none, hit, miss, code}
-use Rattle.whole.proofs.Tests.{left, taken}
+use Rattle.whole.proofs.Tests.{left, taken, either-left, either-right, neither}
 use Rattle.engine.specs.Refused.{assetRight, rubles, moveRight}
-use Rattle.engine.proofs.Parameters.{heard, either-left, either-right, neither}
+use Rattle.engine.proofs.Parameters.{heard}
 use Rattle.engine.proofs.moving.move_numbers.Statement.{statement}
 use Rattle.engine.proofs.moving.move_numbers.Tie as tie
 

@@ -7,12 +7,11 @@ use mir.Facts.{toZ-ofZ}
 use borrow.Author.Needs.{needs}
 use Rattle.whole.specs.Bounds.{_within_}
 use Rattle.whole.specs.Refusals.{Refusal, firstCode}
-use Rattle.whole.proofs.Refusals.{kept}
+use Rattle.whole.proofs.Refusals.{kept, stops, follows}
 use Rattle.book.specs.Ranges.{MoveAsset}
 use Rattle.engine.specs.Refused.{holdingRefusals, moveNumbers, moveJudged}
 use Rattle.engine.proofs.Allowed.{move-in, move-asset, move-amount}
 use Rattle.engine.proofs.Gates.{block-good, block-open}
-use Rattle.engine.proofs.InTurn.{stops, follows}
 use Rattle.engine.proofs.Parameters.{index}
 use Rattle.engine.proofs.moving.move_on.Statement.{statement}
 use Rattle.engine.proofs.moving.move_on.Tie as tie

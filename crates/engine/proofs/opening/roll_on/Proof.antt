@@ -5,12 +5,11 @@ use mathlib.Core.List.{List, [], _∷_}
 use borrow.Author.Needs.{needs}
 use borrow.Author.Tests.{not-false}
 use Rattle.whole.specs.Refusals.{Refusal, _gives_, firstCode}
-use Rattle.whole.proofs.Refusals.{none-holds, kept}
+use Rattle.whole.proofs.Refusals.{none-holds, kept, stops, follows}
 use Rattle.book.specs.Rules.{goodBlock, inBounds}
 use Rattle.book.specs.Roll.{rolled, rollCode}
 use Rattle.book.proofs.Good.{good-in-bounds}
 use Rattle.engine.specs.Refused.{blockRefusals}
-use Rattle.engine.proofs.InTurn.{stops, follows}
 use Rattle.engine.proofs.opening.roll_on.Statement.{statement}
 use Rattle.engine.proofs.opening.roll_on.Tie as tie
 

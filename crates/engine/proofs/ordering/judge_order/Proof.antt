@@ -11,7 +11,7 @@ use mir.Facts.{toZ-ofZ}
 use borrow.Author.Tests.{not-false}
 use borrow.Author.Needs.{needs, sfits-of}
 use Rattle.whole.specs.Refusals.{_gives_}
-use Rattle.whole.proofs.Refusals.{none, hit, miss, code, none-holds, kept, changed}
+use Rattle.whole.proofs.Refusals.{none, hit, miss, code, none-holds, kept, changed, stops}
 use Rattle.whole.proofs.Machine.{back}
 use Rattle.book.specs.Rules.{inBounds}
 use Rattle.book.specs.Changes.{traded, untraded, tradeCode}
@@ -20,7 +20,6 @@ use Rattle.book.proofs.Trades.{Tradable}
 use Rattle.figures.specs.declared.Figures.{Figures}
 use Rattle.figures.specs.Limit.{blockFigures}
 use Rattle.engine.specs.Refused.{limitOf, admitted}
-use Rattle.engine.proofs.InTurn.{stops}
 use Rattle.engine.proofs.Parameters.{not-negative}
 use Rattle.book.proofs.Good.{good-in-bounds, block-ranges}
 use Rattle.book.proofs.Traded.{traded-length, traded-good, untraded-traded}

@@ -7,14 +7,13 @@ use mir.Facts.{toZ-ofZ}
 use borrow.Author.Needs.{needs}
 use Rattle.whole.specs.Refusals.{Refusal, firstCode, leaves}
 use Rattle.whole.proofs.Machine.{back}
-use Rattle.whole.proofs.Refusals.{kept}
+use Rattle.whole.proofs.Refusals.{kept, stops, follows}
 use Rattle.book.specs.Changes.{traded}
 use Rattle.book.specs.Ranges.{TradeRanges}
 use Rattle.book.specs.declared.Trade.{Trade}
 use Rattle.engine.specs.Refused.{holdingRefusals, orderNumbers, orderJudged, tradeOf}
 use Rattle.engine.proofs.Allowed.{asset-in, date-in, side-in, trade-ranges}
 use Rattle.engine.proofs.Gates.{block-good, block-open}
-use Rattle.engine.proofs.InTurn.{stops, follows}
 use Rattle.engine.proofs.Parameters.{index}
 use Rattle.engine.proofs.ordering.order_on.Statement.{statement}
 use Rattle.engine.proofs.ordering.order_on.Tie as tie
