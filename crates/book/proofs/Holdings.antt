@@ -8,10 +8,10 @@ use Prim.Native.Nat.{ℕ, zero, suc, _+_, _<_}
 use native.Mathlib.Omega.{arith}
 use lib.IntN.{ℤ}
 use Rattle.whole.proofs.Numbers.{lt-or-ge}
+use Rattle.whole.proofs.Every.{every-at, every-by, every-out, every-next, every-but}
 use Rattle.rates.specs.Tables.{listed}
 use Rattle.book.specs.Block.{holdingOf}
 use Rattle.book.specs.Rules.{allZero, holdingRight, holdingsRight, holdsListed}
-use Rattle.book.proofs.Below.{every-at, every-by, every-out, every-next, every-but}
 
 -- ---- the holdings, asset by asset
 module _ (block : List ℤ) where

@@ -1,5 +1,4 @@
 -- The laws that callers of `book` cite, and those that its own proofs share.
-pub mod Below
 pub mod Blocks
 pub mod Amounts
 pub mod Holdings

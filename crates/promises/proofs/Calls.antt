@@ -3,15 +3,15 @@
 -- Assumes nothing.
 use mathlib.Core.Path.{_≡_, refl, sym, ap₂, _∙_}
 use mathlib.Core.Bool.{Bool, true, false, cond}
-use mathlib.Core.List.{List, [], _∷_, _++_}
+use mathlib.Core.List.{List, _++_}
 use Prim.Native.Nat.{ℕ, _<_}
 use native.Mathlib.Omega.{arith}
 use lib.Dec.{eqb}
 use lib.IntN.{ℤ, natAbs}
 use lib.ListN.{length, length-set}
 use borrow.Author.Tests.{eqb-true}
-use Rattle.whole.specs.Refusals.{Refusal, _gives_, firstCode, leaves}
-use Rattle.whole.proofs.Refusals.{kept}
+use Rattle.whole.specs.Refusals.{Refusal, firstCode, leaves}
+use Rattle.whole.proofs.Refusals.{first-zero, kept}
 use Rattle.book.specs.Block.{blockOf, putBlock}
 use Rattle.book.specs.Changes.{opened, moved, traded}
 use Rattle.book.proofs.Blocks.{block-length, block-put, block-put-other}
@@ -47,12 +47,6 @@ ownBlock call book = blockOf book (natAbs (call .account))
 
 abbrev pub outcomeOf : Call → List ℤ → Outcome
 outcomeOf call book = outcome (call .gate book ++ call .past (ownBlock call book)) book (call .account) (call .change (ownBlock call book))
-
-first-zero : (a b : List Refusal) → firstCode (a ++ b) ≡ 0 → firstCode a ≡ 0
-unfolding firstCode
-first-zero [] b e = refl
-first-zero (true gives k ∷ a) b e = e
-first-zero (false gives k ∷ a) b e = first-zero a b e
 
 module _ (call : Call) (book : List ℤ) where
   abbrev at : ℕ

@@ -13,4 +13,5 @@ pub mod Marks
 pub mod Refusals
 pub mod Tabulated
 pub mod Lists
+pub mod Every
 pub mod InRange

@@ -55,6 +55,12 @@ goes-on (t gives zero ∷ a) b c e = absurd c
 goes-on (true gives suc k ∷ a) b c e = absurd (omega arith)
 goes-on (false gives suc k ∷ a) b c e = goes-on a b c e
 
+pub first-zero : (a b : List Refusal) → firstCode (a ++ b) ≡ 0 → firstCode a ≡ 0
+unfolding firstCode
+first-zero [] b e = refl
+first-zero (true gives k ∷ a) b e = e
+first-zero (false gives k ∷ a) b e = first-zero a b e
+
 -- as a call answers them: the first list's code where it is not 0, else the second's
 module _ {n : ℕ} (a b : List Refusal) where
   pub stops : n ≡ firstCode a → (n ≡ 0 → ⊥) → n ≡ firstCode (a ++ b)

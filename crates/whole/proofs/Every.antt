@@ -1,5 +1,5 @@
--- A test `every` of 0, 1, .., n − 1 that a definition makes by recursion, one test `f` at each: what it says of each of them. The sixteen
--- holdings of a block are asked so. Assumes nothing.
+-- A test `every` of 0, 1, .., n − 1 that a definition makes by recursion, one test `f` at each: what it says of each of them. Assumes
+-- nothing.
 use mathlib.Core.Path.{_≡_, sym, ap, ap₂, _∙_}
 use mathlib.Core.Logic.{⊎-elim}
 use mathlib.Core.Bool.{Bool, true, false, _&&_}
