@@ -131,7 +131,7 @@ module _ (account : ℕ) (row : List ℤ) (r : RowRanges row) where
   module _ (holding : List ℤ) (h : HoldingRanges holding) where
     pub adjusted-small : adjustedCollateral account row holding within 1000000
     unfolding adjustedCollateral
-    adjusted-small = adjusted-within (regimeOf account row) (collateral holding) (collateral holding +ℤ trades holding) (omega arith) (h .collateral-within) regime-range
+    adjusted-small = adjusted-within (regimeOf account row) (collateral holding) _ (omega arith) (h .collateral-within) regime-range
 
     left-out-upto : leftOut account row holding upto 1000000
     unfolding leftOut
