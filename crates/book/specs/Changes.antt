@@ -35,8 +35,11 @@ unfoldable pub untraded : List ℤ → Trade → List ℤ
 untraded block t = added (added block (tradeAt (t .asset) (t .date) (t .side)) (negℤ (t .quantity))) (rubleNetAt (t .date)) (negℤ (moneyOf t))
 
 -- code 9 of a trade: a number would leave its bounds
+abbrev pub tradeOut : List ℤ → Trade → Bool
+tradeOut block t = not (inBounds (traded block t))
+
 unfoldable pub tradeCode : List ℤ → Trade → ℕ
-tradeCode block t = firstCode (not (inBounds (traded block t)) gives 9 ∷ [])
+tradeCode block t = firstCode (tradeOut block t gives 9 ∷ [])
 
 -- the least that a move may leave of a collateral of size at most `most`: 0 where it is a withdrawal
 unfoldable pub leastAfter : ℤ → ℤ → ℤ
@@ -50,9 +53,13 @@ moveCodeAt block k amount most = firstCode (not (between (leastAfter amount most
 unfoldable pub moved : List ℤ → ℕ → ℤ → List ℤ
 moved block asset amount = added block (moveAt asset) amount
 
--- code 9 of a move: a number would leave its bounds, or a withdrawal would leave collateral below 0
+-- a withdrawal would leave collateral below 0
 unfoldable pub overdrawn : List ℤ → ℕ → ℤ → Bool
 overdrawn block asset amount = ltZ amount (pos 0) && ltZ (number (moved block asset amount) (moveAt asset)) (pos 0)
 
+-- code 9 of a move: a number would leave its bounds, or a withdrawal would leave collateral below 0
+abbrev pub moveOut : List ℤ → ℕ → ℤ → Bool
+moveOut block asset amount = not (inBounds (moved block asset amount)) || overdrawn block asset amount
+
 unfoldable pub moveCode : List ℤ → ℕ → ℤ → ℕ
-moveCode block asset amount = firstCode ((not (inBounds (moved block asset amount)) || overdrawn block asset amount) gives 9 ∷ [])
+moveCode block asset amount = firstCode (moveOut block asset amount gives 9 ∷ [])

@@ -1,6 +1,6 @@
 -- Document 01, "Roll": collateral gains date 0's net, rubles too; dates 1 to 7 become 0 to 6; date 7 empties. All or nothing.
 -- Assumes nothing.
-use mathlib.Core.Bool.{not}
+use mathlib.Core.Bool.{Bool, not}
 use mathlib.Core.List.{List, [], _∷_, _++_}
 use Prim.Native.Nat.{ℕ, zero, suc}
 use lib.IntN.{ℤ, pos, _+ℤ_, _-ℤ_}
@@ -32,5 +32,8 @@ unfoldable pub rolled : List ℤ → List ℤ
 rolled block = rolledTo 16 block
 
 -- code 9 of a roll: a number would leave its bounds
+abbrev pub rollOut : List ℤ → Bool
+rollOut block = not (inBounds (rolled block))
+
 unfoldable pub rollCode : List ℤ → ℕ
-rollCode block = firstCode (not (inBounds (rolled block)) gives 9 ∷ [])
+rollCode block = firstCode (rollOut block gives 9 ∷ [])

@@ -5,16 +5,16 @@ use mathlib.Core.Bool.{Bool, not, _&&_, _||_}
 use mathlib.Core.List.{List, [], _∷_, _++_}
 use Prim.Native.Nat.{ℕ}
 use lib.Dec.{eqb}
-use lib.IntN.{ℤ, pos, negsuc, natAbs}
+use lib.IntN.{ℤ, pos, natAbs}
 use lib.ListN.{length}
 use lib.Signed.{leZ, ltZ}
 use Rattle.whole.specs.Bounds.{between, equal, isZero}
 use Rattle.whole.specs.Refusals.{Refusal, _gives_}
 use Rattle.rates.specs.Tables.{lengthsRight, soundTables, listed}
 use Rattle.book.specs.Block.{bookLength, accountKind}
-use Rattle.book.specs.Rules.{allZero, goodBlock, holdsListed, inBounds}
-use Rattle.book.specs.Changes.{traded, moved, overdrawn}
-use Rattle.book.specs.Roll.{rolled}
+use Rattle.book.specs.Rules.{rublesRight, collateralRight, allZero, goodBlock, holdsListed}
+use Rattle.book.specs.Changes.{traded, tradeOut, moved, moveOut}
+use Rattle.book.specs.Roll.{rollOut}
 use Rattle.book.specs.declared.Trade.{Trade}
 use Rattle.figures.specs.Limit.{blockFigures}
 
@@ -68,7 +68,7 @@ rubles asset = equal asset (pos 255)
 abbrev pub moveRight : ℤ → ℤ → Bool
 moveRight asset amount =
     not (isZero amount)
-    && ((rubles asset && between (negsuc 99999999999999) amount (pos 100000000000000)) || between (negsuc 999999) amount (pos 1000000))
+    && ((rubles asset && rublesRight amount) || collateralRight amount)
 
 abbrev pub moveNumbers : List ℤ → ℤ → ℤ → List Refusal
 moveNumbers clearing asset amount =
@@ -87,14 +87,14 @@ admitted before after = leZ (pos 0) after
 
 abbrev pub orderJudged : List ℤ → List ℤ → List ℤ → List ℤ → Trade → List Refusal
 orderJudged block clearing own groups t =
-    not (inBounds (traded block t)) gives 9
+    tradeOut block t gives 9
     ∷ not (admitted (limitOf block clearing own groups) (limitOf (traded block t) clearing own groups)) gives 10
     ∷ []
 
 -- a deposit is never asked for the limit
 abbrev pub moveJudged : List ℤ → List ℤ → List ℤ → List ℤ → ℕ → ℤ → List Refusal
 moveJudged block clearing own groups asset amount =
-    (not (inBounds (moved block asset amount)) || overdrawn block asset amount) gives 9
+    moveOut block asset amount gives 9
     ∷ (ltZ amount (pos 0) && ltZ (limitOf (moved block asset amount) clearing own groups) (pos 0)) gives 10
     ∷ []
 
@@ -108,7 +108,7 @@ openRefusals block kind =
 
 -- ---- a call's refusals past the gate, all of the account's block
 abbrev pub rollRefusals : List ℤ → List Refusal
-rollRefusals block = blockRefusals block ++ (not (inBounds (rolled block)) gives 9 ∷ [])
+rollRefusals block = blockRefusals block ++ (rollOut block gives 9 ∷ [])
 
 abbrev pub moveRefusals : List ℤ → List ℤ → List ℤ → List ℤ → ℤ → ℤ → List Refusal
 moveRefusals block clearing own groups asset amount =
