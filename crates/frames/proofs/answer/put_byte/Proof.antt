@@ -1,0 +1,37 @@
+-- `answer::put_byte` meets its contract: a digit after a digit. Assumes nothing.
+use mathlib.Core.Path.{ap₂}
+use mathlib.Core.List.{[], _∷_}
+use Prim.Native.Nat.{ℕ}
+use native.Mathlib.Omega.{arith}
+use Rattle.frames.specs.Hex.{hexOf}
+use Rattle.frames.proofs.Laid.{laid-same, laid-then}
+use borrow.Author.Needs.{needs}
+use Rattle.frames.proofs.answer.put_byte.Statement.{statement}
+use Rattle.frames.proofs.answer.put_byte.Tie as tie
+
+digit-requires : tie.Need-digit-requires
+digit-requires c κs = search needs
+
+put-requires : tie.Need-put-requires
+put-requires c κs = search needs
+
+digit-requires-2 : tie.Need-digit-requires-2
+digit-requires-2 c κs = search needs
+
+put-requires-2 : tie.Need-put-requires-2
+put-requires-2 c κs = search needs
+
+same-length : tie.Need-same-length
+same-length c = search needs
+
+returns : tie.Need-returns
+unfolding hexOf
+returns c =
+    let p = c .before .before .before .before .before .before .before .put .ensures in
+    laid-same (ap₂ (λ (high low : ℕ). high ∷ low ∷ []) (c .before .before .before .before .before .before .before .before .digit .ensures) (c .before .before .before .digit2 .ensures))
+    (laid-then (omega arith) p (c .before .before .put2 .ensures))
+
+pub put-byte-spec : {M : Type 1} → statement M
+put-byte-spec =
+    tie.close
+    (tie.spec digit-requires put-requires digit-requires-2 put-requires-2 same-length returns)

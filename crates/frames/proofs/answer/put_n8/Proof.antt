@@ -1,0 +1,37 @@
+-- `answer::put_n8` meets its contract: four bytes of its bits after four bytes. Assumes nothing.
+use mathlib.Core.Path.{ap, _∙_}
+use Prim.Native.Nat.{ℕ}
+use native.Mathlib.Omega.{arith}
+use Rattle.frames.specs.Hex.{hexOf}
+use Rattle.frames.specs.Number.{twoBytes, fourBytes, eightBytes, n8}
+use mir.Syntax.{w64}
+use mir.Val.{ofZ}
+use Rattle.frames.proofs.Sign.{back}
+use Rattle.frames.proofs.Laid.{laid-same, laid-then}
+use borrow.Author.Needs.{needs}
+use Rattle.frames.proofs.answer.put_n8.Statement.{statement}
+use Rattle.frames.proofs.answer.put_n8.Tie as tie
+
+bits-requires : tie.Need-bits-requires
+bits-requires c κs = search needs
+
+put-four-requires : tie.Need-put-four-requires
+put-four-requires c κs = search needs
+
+put-four-requires-2 : tie.Need-put-four-requires-2
+put-four-requires-2 c κs = search needs
+
+same-length : tie.Need-same-length
+same-length c = search needs
+
+returns : tie.Need-returns
+unfolding hexOf twoBytes fourBytes eightBytes n8
+returns c =
+    let p = c .before .before .before .before .before .before .put-four .ensures in
+    laid-same (ap (λ (u : ℕ). hexOf (eightBytes u)) (c .before .before .before .before .before .before .before .before .bits .ensures
+    ∙ ap (ofZ w64) (back _ (c .before .before .before .before .before .before .before .before .before .before .fits .z))))
+    (laid-then (omega arith) p (c .before .before .put-four2 .ensures))
+
+pub put-n8-spec : {M : Type 1} → statement M
+put-n8-spec =
+    tie.close (tie.spec bits-requires put-four-requires put-four-requires-2 same-length returns)

@@ -1,0 +1,10 @@
+mod answer;
+mod frame;
+mod hex;
+mod number;
+
+pub use answer::put_answer;
+pub use frame::frame_of;
+pub use frame::Frame;
+
+// Session lines of document 01: a line's bytes to a frame, and an answer to its line. Both take any input.
