@@ -1,0 +1,110 @@
+// Standard input answered on standard output, in large pieces. Memory is what `run` holds from its start: the book, the parameters, the line that has
+// begun, and a buffer each way.
+use libc::STDIN_FILENO;
+use libc::STDOUT_FILENO;
+
+ghost use Prim.Native.Nat.{_≤_};
+ghost use lib.ListN.{length};
+
+// How a piece left the session: the bytes held of the line that has begun, and whether to go on.
+struct Left {
+    count: usize,
+    more: bool,
+}
+
+// Answers a piece, and writes as often as the buffer is full. A write that fails ends the session: what was written before stays.
+fn answer_piece(
+    book: &mut [i64; 4608],
+    parameters: &mut [i64; 2056],
+    line: &mut [u8; 42],
+    count: usize,
+    piece: &[u8],
+    out: &mut [u8],
+) -> Left
+    requires { ⌜ 83 ≤ length (now out) ⌝ }
+{
+    let mut held = count;
+    let mut from = 0;
+    while from < piece.len() {
+        let spot = session_lines::feed(book, parameters, line, held, &piece[from..], out);
+        let n = spot.at;
+        if !io::write_all(STDOUT_FILENO, &out[..n]) {
+            return Left {
+                count: 0,
+                more: false,
+            };
+        }
+        held = spot.count;
+        from += spot.used;
+    }
+    Left {
+        count: held,
+        more: true,
+    }
+}
+
+// One read, answered. A read of nothing is the end of the input.
+fn turn(
+    book: &mut [i64; 4608],
+    parameters: &mut [i64; 2056],
+    line: &mut [u8; 42],
+    count: usize,
+    buf: &mut [u8],
+    out: &mut [u8],
+) -> Left
+    requires { ⌜ 83 ≤ length (now out) ⌝ }
+{
+    let got = libc::read(STDIN_FILENO, buf);
+    let n = io::count(got, buf);
+    if n == 0 {
+        return Left { count, more: false };
+    }
+    answer_piece(book, parameters, line, count, &buf[..n], out)
+}
+
+// Reads to the end of the input; the bytes held of a last line without its newline. The count of turns falls to 0, so the loop ends; no run uses it up.
+fn read_all(
+    book: &mut [i64; 4608],
+    parameters: &mut [i64; 2056],
+    line: &mut [u8; 42],
+    buf: &mut [u8],
+    out: &mut [u8],
+) -> usize
+    requires { ⌜ 83 ≤ length (now out) ⌝ }
+{
+    let mut count = 0;
+    let mut turns = u64::MAX;
+    while turns > 0 {
+        let left = turn(book, parameters, line, count, buf, out);
+        count = left.count;
+        if !left.more {
+            return count;
+        }
+        turns -= 1;
+    }
+    count
+}
+
+fn serve(
+    book: &mut [i64; 4608],
+    parameters: &mut [i64; 2056],
+    line: &mut [u8; 42],
+    buf: &mut [u8],
+    out: &mut [u8],
+)
+    requires { ⌜ 83 ≤ length (now out) ⌝ }
+{
+    let count = read_all(book, parameters, line, buf, out);
+    let n = session_lines::end(book, parameters, line, count, out);
+    io::write_all(STDOUT_FILENO, &out[..n]);
+}
+
+// A whole session: an empty book, all-zero tables, and every line of standard input answered.
+pub fn run() {
+    let mut book = [0i64; 4608];
+    let mut parameters = [0i64; 2056];
+    let mut line = [0u8; 42];
+    let mut buf = io::large_buffer();
+    let mut out = io::large_buffer();
+    serve(&mut book, &mut parameters, &mut line, &mut buf, &mut out);
+}

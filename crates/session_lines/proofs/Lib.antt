@@ -1,0 +1,5 @@
+pub mod Lent
+pub mod Answers
+pub mod Held
+pub mod Steps
+pub mod Took

@@ -1,0 +1,71 @@
+-- `calls::move_collateral` meets its contract: a byte is its number, and the parameters are lent as their three parts. Assumes nothing.
+use mathlib.Core.Path.{_∙_}
+use native.Mathlib.Omega.{arith}
+use lib.ListN.{length-take}
+use denote.Ref.{now}
+use mir.Facts.{toZ-ofZ}
+use Rattle.whole.specs.Parts.{part}
+use Rattle.engine.specs.Calls.{moveOutcome}
+use Rattle.session_lines.specs.Session.{clearing, own}
+use Rattle.session_lines.proofs.Lent.{byte-is, groups-lent}
+use borrow.Author.Needs.{needs}
+use Rattle.session_lines.proofs.calls.move_collateral.Statement.{statement}
+use Rattle.session_lines.proofs.calls.move_collateral.Tie as tie
+
+slice-aggregate-move-collateral : tie.Need-slice-aggregate-move-collateral
+slice-aggregate-move-collateral c = simp length-take (omega arith)
+
+sub-move-collateral : tie.Need-sub-move-collateral
+sub-move-collateral c = search needs
+
+part-move-collateral-start : tie.Need-part-move-collateral-start
+part-move-collateral-start c = search needs
+
+part-move-collateral-end : tie.Need-part-move-collateral-end
+part-move-collateral-end c = search needs
+
+sub-move-collateral-2 : tie.Need-sub-move-collateral-2
+sub-move-collateral-2 c = search needs
+
+part-move-collateral-start-2 : tie.Need-part-move-collateral-start-2
+part-move-collateral-start-2 c = search needs
+
+part-move-collateral-end-2 : tie.Need-part-move-collateral-end-2
+part-move-collateral-end-2 c = search needs
+
+cast-move-collateral : tie.Need-cast-move-collateral
+cast-move-collateral c = search needs
+
+cast-move-collateral-2 : tie.Need-cast-move-collateral-2
+cast-move-collateral-2 c = search needs
+
+move-collateral-requires : tie.Need-move-collateral-requires
+move-collateral-requires c κs = search needs
+
+same-length : tie.Need-same-length
+same-length c = search needs
+
+returns : tie.Need-returns
+unfolding part
+returns c =
+    let a = c .before .before .before .before .before .before in
+    let p = now (a .args .parameters) in
+    c .before .move-collateral .ensures
+    ∙ (λ i. moveOutcome (now (a .args .book)) (byte-is (a .fits .account) i) (clearing p) (own p) (groups-lent p (a .pre) i) (byte-is (a .fits .asset) i) (toZ-ofZ (a .fits .amount) i))
+
+pub move-collateral-spec : {M : Type 1} → statement M
+move-collateral-spec =
+    tie.close
+    (tie.spec
+    slice-aggregate-move-collateral
+    sub-move-collateral
+    part-move-collateral-start
+    part-move-collateral-end
+    sub-move-collateral-2
+    part-move-collateral-start-2
+    part-move-collateral-end-2
+    cast-move-collateral
+    cast-move-collateral-2
+    move-collateral-requires
+    same-length
+    returns)

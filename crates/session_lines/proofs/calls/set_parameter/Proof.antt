@@ -1,0 +1,29 @@
+-- `calls::set_parameter` meets its contract: the test is the definition's. Assumes nothing.
+use mathlib.Core.Path.{refl}
+use mir.Facts.{toZ-ofZ}
+use borrow.Author.Tests.{lt-ltb, le-ltb}
+use Rattle.session_lines.specs.Session.{parameterSet}
+use borrow.Author.Needs.{needs}
+use Rattle.session_lines.proofs.calls.set_parameter.Statement.{statement}
+use Rattle.session_lines.proofs.calls.set_parameter.Tie as tie
+
+mul-number : tie.Need-mul-number
+mul-number c = search needs
+
+slice-set-from-number : tie.Need-slice-set-from-number
+slice-set-from-number c = search needs
+
+same-length : tie.Need-same-length
+same-length c = search needs
+
+returns : tie.Need-returns
+unfolding parameterSet
+returns c = rw (lt-ltb _ _ (c .if1 .taken), toZ-ofZ (c .before .fits .number)) refl
+
+returns-2 : tie.Need-returns-2
+unfolding parameterSet
+returns-2 c = rw (le-ltb _ _ (c .if1 .left)) refl
+
+pub set-parameter-spec : {M : Type 1} → statement M
+set-parameter-spec =
+    tie.close (tie.spec mul-number slice-set-from-number same-length returns returns-2)
