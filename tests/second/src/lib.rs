@@ -30,4 +30,5 @@ pub mod session;
 // What the comparison is made with.
 pub mod cases;
 pub mod coverage;
+pub mod engine;
 pub mod generate;

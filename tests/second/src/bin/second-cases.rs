@@ -1,26 +1,36 @@
-//! `second-cases DIRECTORY`: writes the stored cases, each as NAME.in and NAME.out.
+//! `second-cases ROOT`: writes the stored cases into the repository at ROOT: tests/cases/NAME.in and NAME.out, and
+//! crates/NAME/stdin and stdout of those that are programs.
 
 use std::path::Path;
 use std::process::ExitCode;
 use std::{env, fs, io};
 
-use second::cases::{self, Case};
+use second::cases;
 
 fn main() -> ExitCode {
-    let Some(directory) = env::args().nth(1) else {
-        eprintln!("usage: second-cases DIRECTORY");
+    let Some(root) = env::args().nth(1) else {
+        eprintln!("usage: second-cases ROOT");
         return ExitCode::FAILURE;
     };
-    match cases::all().iter().try_for_each(|case| write(Path::new(&directory), case)) {
+    match write(Path::new(&root)) {
         Ok(()) => ExitCode::SUCCESS,
         Err(error) => {
-            eprintln!("{directory}: {error}");
+            eprintln!("{root}: {error}");
             ExitCode::FAILURE
         }
     }
 }
 
-fn write(directory: &Path, case: &Case) -> io::Result<()> {
-    fs::write(directory.join(format!("{}.in", case.name)), &case.input)?;
-    fs::write(directory.join(format!("{}.out", case.name)), &case.output)
+fn write(root: &Path) -> io::Result<()> {
+    for case in cases::all() {
+        let path = root.join("tests/cases").join(case.name);
+        fs::write(path.with_extension("in"), case.input)?;
+        fs::write(path.with_extension("out"), case.output)?;
+    }
+    for case in cases::programs() {
+        let crate_folder = root.join("crates").join(case.name);
+        fs::write(crate_folder.join("stdin"), case.input)?;
+        fs::write(crate_folder.join("stdout"), case.output)?;
+    }
+    Ok(())
 }

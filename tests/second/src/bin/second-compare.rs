@@ -3,13 +3,12 @@
 //! Says how many lines of which codes were compared. At the first difference stores the input in STORE and fails.
 
 use std::collections::BTreeMap;
-use std::io::{self, Write};
 use std::path::Path;
-use std::process::{Command, ExitCode, Output, Stdio};
-use std::{env, fs, thread};
+use std::process::ExitCode;
+use std::{env, fs, io};
 
+use second::engine;
 use second::generate;
-use second::session::answers;
 
 /// Lines compared, by the code they were answered with.
 type Codes = BTreeMap<String, u64>;
@@ -72,50 +71,8 @@ fn keep(store: &str, seed: u64, input: &[u8]) -> io::Result<String> {
 
 /// One session through both programs.
 fn compare(program: &str, input: &[u8], codes: &mut Codes) -> Result<(), String> {
-    let output = run(program, input).map_err(|error| format!("{program}: {error}"))?;
-    let wanted = answers(input);
-    if let Some(difference) = difference(input, &wanted, &output.stdout) {
-        return Err(difference);
-    }
-    if !output.status.success() {
-        return Err(format!("{program} ended with {}", output.status));
-    }
-    for line in wanted.split_inclusive(|&byte| byte == b'\n') {
-        *codes.entry(text(&line[..2])).or_default() += 1;
+    for line in engine::compare(program, &[input])?.split_inclusive(|&byte| byte == b'\n') {
+        *codes.entry(line[..2].escape_ascii().to_string()).or_default() += 1;
     }
     Ok(())
-}
-
-/// Feeds the program from a thread of its own, so that neither waits for the other.
-fn run(program: &str, input: &[u8]) -> io::Result<Output> {
-    let mut child = Command::new(program).stdin(Stdio::piped()).stdout(Stdio::piped()).spawn()?;
-    let mut stdin = child.stdin.take().expect("a pipe");
-    thread::scope(|scope| {
-        // A program that ends before it has read everything shows in its output.
-        scope.spawn(move || stdin.write_all(input));
-        child.wait_with_output()
-    })
-}
-
-/// The first line that differs, with both answers.
-fn difference(input: &[u8], wanted: &[u8], answered: &[u8]) -> Option<String> {
-    if wanted == answered {
-        return None;
-    }
-    let mut lines = [input, wanted, answered].map(|text| text.split_inclusive(|&byte| byte == b'\n'));
-    for number in 1.. {
-        let [line, wanted, answered] = lines.each_mut().map(|lines| lines.next());
-        if wanted != answered {
-            let [line, wanted, answered] = [line, wanted, answered].map(|line| text(line.unwrap_or(b"nothing")));
-            return Some(format!("line {number}: {line}\n  the second program: {wanted}\n  the engine: {answered}"));
-        }
-    }
-    None
-}
-
-/// A line as it can be shown, cut short where it is long.
-fn text(line: &[u8]) -> String {
-    const SHOWN: usize = 120;
-    let line = line.strip_suffix(b"\n").unwrap_or(line);
-    line[..line.len().min(SHOWN)].escape_ascii().to_string()
 }

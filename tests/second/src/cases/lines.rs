@@ -21,7 +21,7 @@ fn literal(name: &str, input: &str, output: &str) -> Case {
     Case { name: name.to_string(), input: input.into(), output: output.into() }
 }
 
-fn document() -> Case {
+pub fn document() -> Case {
     literal(
         "document",
         "020001\n0300ff00000000000186a0\n0600\n",
@@ -34,37 +34,36 @@ fn bare_end() -> Case {
     literal("bare-end", "020002\n0500", "00\n00\n")
 }
 
+/// Lines of another form that a hand may well write.
+pub const SLIPS: [&[u8]; 23] = [
+    b"",
+    b"0",
+    b"02000",
+    b"0200011",
+    b"02000101",
+    b"0200",
+    b"02",
+    b"00",
+    b"07",
+    b"ff0001",
+    b"0700",
+    b"020001\r",
+    b"\r",
+    b" 020001",
+    b"020001 ",
+    b"02 0001",
+    b"0x0001",
+    b"02000g",
+    b"0300FF0000000000000001",
+    b"\x800001",
+    b"02000\xff",
+    b"02\00001",
+    b"+20001",
+];
+
 fn malformed() -> Case {
-    const LONG: usize = 5_000;
     let mut script = Script::new("malformed");
-    let long = [b'0'; LONG];
-    let lines: [&[u8]; 24] = [
-        b"",
-        b"0",
-        b"02000",
-        b"0200011",
-        b"02000101",
-        b"0200",
-        b"02",
-        b"00",
-        b"07",
-        b"ff0001",
-        b"0700",
-        b"020001\r",
-        b"\r",
-        b" 020001",
-        b"020001 ",
-        b"02 0001",
-        b"0x0001",
-        b"02000g",
-        b"0300FF0000000000000001",
-        b"\x800001",
-        b"02000\xff",
-        b"02\00001",
-        b"+20001",
-        &long,
-    ];
-    for line in lines {
+    for line in SLIPS.into_iter().chain([&[b'0'; 5_000][..]]) {
         script.line(line, "0c");
     }
     // None of them opened the account.

@@ -1,10 +1,14 @@
 //! The stored cases: session inputs with the outputs document 01 gives them. The expected figures and codes are written
-//! down here from the document; nothing here asks the rules.
+//! down here from the document; nothing here asks the rules, but for the answers of one long session.
 
 mod lines;
+mod malformed;
+mod programs;
 mod sums;
 
 pub use sums::{GROUP_ONE, Held, SUMS, Sum, row_a};
+
+pub use programs::programs;
 
 use crate::frame::Frame;
 
@@ -14,6 +18,7 @@ pub struct Case {
     pub output: Vec<u8>,
 }
 
+/// The cases of tests/cases.
 pub fn all() -> Vec<Case> {
     let mut cases = lines::cases();
     cases.extend(sums::cases());
@@ -55,5 +60,11 @@ impl Script {
     fn no_report(&mut self, account: i64, code: u8) {
         let zeros = "0".repeat(5 * 16);
         self.line(&Frame::Report { account }.line(), &format!("{code:02x}{zeros}"));
+    }
+
+    /// The last line lacks its newline.
+    fn bare_end(mut self) -> Case {
+        self.0.input.pop();
+        self.0
     }
 }

@@ -1,4 +1,5 @@
-//! Document 01, "Sums to be met": S1 to S12, with the remark on S2, the two orders, and the rows of the cover test.
+//! Document 01, "Sums to be met": S1 to S12, with the remark on S2, the two orders, and the rows of the cover test; each
+//! as a case of its own, and all of them in one session.
 
 use super::{Case, Script};
 use crate::block::{LISTED_POOL, ORDINARY, POOL};
@@ -6,7 +7,7 @@ use crate::calls::{BUY, Move, Order, RUBLES, SELL};
 use crate::frame::Frame;
 use crate::row::*;
 use crate::tables::{clearing_place, group_place};
-use crate::units::{DATES, ROW, WHOLE};
+use crate::units::{ACCOUNTS, ASSETS, DATES, ROW, WHOLE};
 
 /// The discount percent of group 1.
 pub const GROUP_ONE: i64 = 25;
@@ -103,36 +104,61 @@ impl Sum {
         row
     }
 
-    /// Holdings come in under rows that give every trade the value 0, so that no limit stops them; then the sum's own
-    /// rows take their place.
     fn case(&self) -> Case {
         let mut script = Script::new(self.name);
-        script.say(Frame::Open { account: 0, kind: self.account_kind }, 0);
+        self.play(&mut script, 0, &mut Rows::new());
+        script.0
+    }
+
+    /// Holdings come in under rows that give every trade the value 0, so that no limit stops them; then the sum's own
+    /// rows take their place.
+    fn play(&self, script: &mut Script, account: i64, rows: &mut Rows) {
+        script.say(Frame::Open { account, kind: self.account_kind }, 0);
         for asset in 0..self.assets {
-            write_row(&mut script, asset, &worthless(self.row()[KIND]), &[0; ROW]);
+            rows.lend(script, asset, &worthless(self.row()[KIND]));
         }
         for held in self.holding {
-            script.say(held.frame(), 0);
+            script.say(held.frame(account), 0);
         }
         script.set(group_place(0), GROUP_ONE);
         for asset in 0..self.assets {
-            write_row(&mut script, asset, &self.row(), &worthless(self.row()[KIND]));
+            rows.lend(script, asset, &self.row());
         }
-        script.report(0, self.figures);
-        script.0
+        script.report(account, self.figures);
+    }
+
+    fn has_row_a(&self) -> bool {
+        self.row() == row_a()
     }
 }
 
 impl Held {
-    fn frame(self) -> Frame {
+    fn frame(self, account: i64) -> Frame {
         let order = |asset: usize, date: usize, side, quantity| {
-            Frame::Order(Order { account: 0, asset: asset as i64, date: date as i64, side, quantity, money: 0 })
+            Frame::Order(Order { account, asset: asset as i64, date: date as i64, side, quantity, money: 0 })
         };
         match self {
-            Collateral { asset, units } => Frame::Move(Move { account: 0, asset: asset as i64, amount: units }),
+            Collateral { asset, units } => Frame::Move(Move { account, asset: asset as i64, amount: units }),
             Claim { asset, date, units } => order(asset, date, BUY, units),
             Obligation { asset, date, units } => order(asset, date, SELL, units),
         }
+    }
+}
+
+/// The clearing rows as a script has lent them so far.
+struct Rows([Row; ASSETS]);
+
+impl Rows {
+    fn new() -> Rows {
+        Rows([[0; ROW]; ASSETS])
+    }
+
+    /// Writes the numbers that differ from the row lent before.
+    fn lend(&mut self, script: &mut Script, asset: usize, row: &Row) {
+        for number in (0..ROW).filter(|&number| row[number] != self.0[asset][number]) {
+            script.set(clearing_place(asset, number), row[number]);
+        }
+        self.0[asset] = *row;
     }
 }
 
@@ -145,24 +171,60 @@ fn worthless(kind: i64) -> Row {
     row
 }
 
-fn write_row(script: &mut Script, asset: usize, row: &Row, before: &Row) {
-    for number in (0..ROW).filter(|&number| row[number] != before[number]) {
-        script.set(clearing_place(asset, number), row[number]);
-    }
+/// Row A for asset 0.
+pub fn lend_row_a(script: &mut Script) {
+    script.set(group_place(0), GROUP_ONE);
+    Rows::new().lend(script, 0, &row_a());
 }
+
+/// Opens an account with so much collateral, and buys 10 for 100,000 at date 1.
+pub fn buy_ten(script: &mut Script, account: i64, rubles: i64, code: u8) {
+    script.say(Frame::Open { account, kind: ORDINARY }, 0);
+    script.say(deposit(account, rubles), 0);
+    script.say(ten(account), code);
+}
+
+fn deposit(account: i64, amount: i64) -> Frame {
+    Frame::Move(Move { account, asset: RUBLES, amount })
+}
+
+fn ten(account: i64) -> Frame {
+    Frame::Order(Order { account, asset: 0, date: 1, side: BUY, quantity: 10, money: 100_000 })
+}
+
+/// What an account reports that bought ten with 21,000 kopecks, and one that could not with 20,999.
+pub const BOUGHT: [i64; 5] = [21_000, 20_000, 1_000, 0, 0];
+const NOT_BOUGHT: [i64; 5] = [20_999, 0, 0, 0, 20_999];
 
 /// With 21,000 kopecks buying 10 for 100,000 at date 1 leaves 0 and is admitted; with 20,999 it is code 10.
 fn two_orders() -> Case {
     let mut script = Script::new("two-orders");
-    script.set(group_place(0), GROUP_ONE);
-    write_row(&mut script, 0, &row_a(), &[0; ROW]);
-    for (account, rubles, code) in [(0, 21_000, 0), (1, 20_999, 10)] {
-        script.say(Frame::Open { account, kind: ORDINARY }, 0);
-        script.say(Frame::Move(Move { account, asset: RUBLES, amount: rubles }), 0);
-        script.say(Frame::Order(Order { account, asset: 0, date: 1, side: BUY, quantity: 10, money: 100_000 }), code);
+    lend_row_a(&mut script);
+    buy_ten(&mut script, 0, 21_000, 0);
+    buy_ten(&mut script, 1, 20_999, 10);
+    script.report(0, BOUGHT);
+    script.report(1, NOT_BOUGHT);
+    script.0
+}
+
+/// One session for all of it: a sum to an account, and the two orders in the last one, the second a kopeck later. When
+/// every account has its holding, those under row A report once more, and nothing of the others' has touched them.
+pub fn session() -> Case {
+    let mut script = Script::new("session_sums");
+    let mut rows = Rows::new();
+    for (account, sum) in SUMS.iter().enumerate() {
+        sum.play(&mut script, account as i64, &mut rows);
     }
-    script.report(0, [21_000, 20_000, 1_000, 0, 0]);
-    script.report(1, [20_999, 0, 0, 0, 20_999]);
+    rows.lend(&mut script, 0, &row_a());
+    let last = ACCOUNTS as i64 - 1;
+    buy_ten(&mut script, last, 20_999, 10);
+    script.report(last, NOT_BOUGHT);
+    script.say(deposit(last, 1), 0);
+    script.say(ten(last), 0);
+    script.report(last, BOUGHT);
+    for (account, sum) in SUMS.iter().enumerate().filter(|(_, sum)| sum.has_row_a()) {
+        script.report(account as i64, sum.figures);
+    }
     script.0
 }
 

@@ -11,6 +11,7 @@ mod rows;
 mod trades;
 
 pub use faults::HUGE;
+pub use random::Random;
 pub use rows::bounds_at;
 
 use maker::Maker;
