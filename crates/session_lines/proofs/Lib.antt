@@ -3,3 +3,5 @@ pub mod Answers
 pub mod Held
 pub mod Steps
 pub mod Took
+pub mod Whole
+pub mod Pieces
