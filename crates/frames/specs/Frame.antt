@@ -7,6 +7,8 @@ use lib.Dec.{eqb}
 use lib.ListN.{length}
 use Rattle.frames.specs.Hex.{isHex, bytesOf}
 use Rattle.frames.specs.Number.{byte, two, n8At}
+use Rattle.frames.specs.declared.frame.MoveNumbers.{MoveNumbers}
+use Rattle.frames.specs.declared.frame.OrderNumbers.{OrderNumbers}
 use Rattle.frames.specs.declared.frame.Frame.{Frame}
 use Rattle.frames.specs.declared.frame.Frame.the-variants.{Parameter, Open, Move, Order, Roll, Report, Malformed}
 
@@ -14,13 +16,28 @@ use Rattle.frames.specs.declared.frame.Frame.the-variants.{Parameter, Op
 unfoldable pub shaped : ℕ → ℕ → List ℕ → Bool
 shaped size kind bytes = eqb (length bytes) size && eqb (byte bytes 0) kind
 
--- 01 place (2 bytes) n8. 02 account, kind. 03 account, asset, n8. 04 account, asset, date, side, quantity n8, money n8. 05 account. 06 account
+-- the numbers of a move: account, asset, n8
+unfoldable pub moveNumbers : List ℕ → MoveNumbers
+moveNumbers bytes = record { account = byte bytes 1; asset = byte bytes 2; amount = n8At bytes 3 }
+
+-- and of an order: account, asset, date, side, quantity n8, money n8
+unfoldable pub orderNumbers : List ℕ → OrderNumbers
+orderNumbers bytes = record {
+  account = byte bytes 1;
+  asset = byte bytes 2;
+  date = byte bytes 3;
+  side = byte bytes 4;
+  quantity = n8At bytes 5;
+  money = n8At bytes 13;
+}
+
+-- 01 place (2 bytes) n8. 02 account, kind. 03 a move. 04 an order. 05 account. 06 account
 unfoldable pub frameOf : List ℕ → Frame
 frameOf bytes =
     cond (shaped 11 1 bytes) (Parameter (two bytes 1) (n8At bytes 3))
     (cond (shaped 3 2 bytes) (Open (byte bytes 1) (byte bytes 2))
-    (cond (shaped 11 3 bytes) (Move (byte bytes 1) (byte bytes 2) (n8At bytes 3))
-    (cond (shaped 21 4 bytes) (Order (byte bytes 1) (byte bytes 2) (byte bytes 3) (byte bytes 4) (n8At bytes 5) (n8At bytes 13))
+    (cond (shaped 11 3 bytes) (Move (moveNumbers bytes))
+    (cond (shaped 21 4 bytes) (Order (orderNumbers bytes))
     (cond (shaped 2 5 bytes) (Roll (byte bytes 1))
     (cond (shaped 2 6 bytes) (Report (byte bytes 1))
     Malformed)))))

@@ -2,7 +2,6 @@
 // begun, and a buffer each way.
 use libc::STDIN_FILENO;
 use libc::STDOUT_FILENO;
-
 ghost use Prim.Native.Nat.{_≤_};
 ghost use lib.ListN.{length};
 

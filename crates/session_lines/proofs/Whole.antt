@@ -63,8 +63,8 @@ pub answer-fits : (s : State) (frame : Frame) → length (answered s frame .line
 unfolding answered
 answer-fits s (Parameter place number) = short _ [] (omega arith)
 answer-fits s (Open account kind) = short _ [] (omega arith)
-answer-fits s (Move account asset amount) = short _ [] (omega arith)
-answer-fits s (Order account asset date side quantity money) = short _ [] (omega arith)
+answer-fits s (Move m) = short _ [] (omega arith)
+answer-fits s (Order o) = short _ [] (omega arith)
 answer-fits s (Roll account) = short _ [] (omega arith)
 answer-fits s (Report account) = short _ _ (omega arith)
 answer-fits s Malformed = short 12 [] (omega arith)

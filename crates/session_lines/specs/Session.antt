@@ -12,6 +12,8 @@ use Rattle.engine.specs.Report.{reportOf}
 use Rattle.engine.specs.declared.Reported.{Reported}
 use Rattle.frames.specs.Frame.{lineFrame}
 use Rattle.frames.specs.Answer.{answerLine}
+use Rattle.frames.specs.declared.frame.MoveNumbers.{MoveNumbers}
+use Rattle.frames.specs.declared.frame.OrderNumbers.{OrderNumbers}
 use Rattle.frames.specs.declared.frame.Frame.{Frame}
 use Rattle.frames.specs.declared.frame.Frame.the-variants.{Parameter, Open, Move, Order, Roll, Report, Malformed}
 
@@ -59,16 +61,21 @@ abbrev pub reportLine : Reported → List ℕ
 reportLine r =
     let f = r .figures in answerLine (r .code) (f .valuation ∷ f .market ∷ f .interest ∷ f .discount ∷ f .limit ∷ [])
 
+-- 03, 04: the call with the line's numbers
+unfoldable pub moveLeft : List ℤ → List ℤ → MoveNumbers → Outcome
+moveLeft book p m = moveOutcome book (pos (m .account)) (clearing p) (own p) (groups p) (pos (m .asset)) (m .amount)
+
+unfoldable pub orderLeft : List ℤ → List ℤ → OrderNumbers → Outcome
+orderLeft book p o =
+    orderOutcome book (pos (o .account)) (clearing p) (own p) (groups p) (pos (o .asset)) (pos (o .date)) (pos (o .side)) (o .quantity) (o .money)
+
 -- each frame through its call; a line of no form is code 12
 unfoldable pub answered : State → Frame → Answered
 answered s (Parameter place number) =
     let set = parameterSet (s .parameters) place number in coded (record { book = s .book; parameters = set .parameters }) (set .code)
 answered s (Open account kind) = called s (openOutcome (s .book) (pos account) (pos kind))
-answered s (Move account asset amount) =
-    let p = s .parameters in called s (moveOutcome (s .book) (pos account) (clearing p) (own p) (groups p) (pos asset) amount)
-answered s (Order account asset date side quantity money) =
-    let p = s .parameters in
-    called s (orderOutcome (s .book) (pos account) (clearing p) (own p) (groups p) (pos asset) (pos date) (pos side) quantity money)
+answered s (Move m) = called s (moveLeft (s .book) (s .parameters) m)
+answered s (Order o) = called s (orderLeft (s .book) (s .parameters) o)
 answered s (Roll account) = called s (rollOutcome (s .book) (pos account))
 answered s (Report account) =
     let p = s .parameters in record { state = s; line = reportLine (reportOf (s .book) (clearing p) (own p) (groups p) (pos account)) }

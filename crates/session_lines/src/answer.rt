@@ -34,16 +34,26 @@ fn put_report(out: &mut [u8], at: usize, reported: engine::Reported) -> usize
 }
 
 // What a frame leaves in the book and the parameters, and the line of its answer at a place of `out`.
-pub(crate) fn answer(book: &mut [i64], parameters: &mut [i64], frame: Frame, out: &mut [u8], at: usize) -> usize
+pub(crate) fn answer(
+    book: &mut [i64],
+    parameters: &mut [i64],
+    frame: Frame,
+    out: &mut [u8],
+    at: usize,
+) -> usize
     requires { ⌜ length (now parameters) ≡ 2056 ⌝ }
     ensures kept { λ _. ⌜ _≡_ {A = State} (record { book = now (book .exit); parameters = now (parameters .exit) }) (answered (record { book = now (book .entry); parameters = now (parameters .entry) }) frame .state) ⌝ }
     ensures said { λ r. ⌜ _≡_ {A = Written} (record { bytes = now (out .exit); at = r }) (written (now (out .entry)) at (answered (record { book = now (book .entry); parameters = now (parameters .entry) }) frame .line)) ⌝ }
 {
     match frame {
-        Frame::Parameter { place, number } => put_code(out, at, calls::set_parameter(parameters, place, number)),
+        Frame::Parameter { place, number } => put_code(
+            out,
+            at,
+            calls::set_parameter(parameters, place, number),
+        ),
         Frame::Open { account, kind } => put_code(out, at, calls::open(book, account, kind)),
-        Frame::Move { account, asset, amount } => put_code(out, at, calls::move_collateral(book, parameters, account, asset, amount)),
-        Frame::Order { account, asset, date, side, quantity, money } => put_code(out, at, calls::order(book, parameters, account, asset, date, side, quantity, money)),
+        Frame::Move(line) => put_code(out, at, calls::move_collateral(book, parameters, line)),
+        Frame::Order(line) => put_code(out, at, calls::order(book, parameters, line)),
         Frame::Roll { account } => put_code(out, at, calls::roll(book, account)),
         Frame::Report { account } => put_report(out, at, calls::report(book, parameters, account)),
         Frame::Malformed => put_code(out, at, MALFORMED),

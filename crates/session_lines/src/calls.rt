@@ -1,9 +1,11 @@
 ghost use mathlib.Core.Path.{_≡_};
 ghost use lib.IntN.{pos};
 ghost use lib.ListN.{length};
-ghost use Rattle.engine.specs.Calls.{Outcome, openOutcome, moveOutcome, orderOutcome, rollOutcome};
+ghost use Rattle.engine.specs.Calls.{Outcome, openOutcome, rollOutcome};
 ghost use Rattle.engine.specs.Report.{reportOf};
-ghost use Rattle.session_lines.specs.Session.{Setting, parameterSet, clearing, own, groups};
+ghost use Rattle.session_lines.specs.Session.{Setting, parameterSet, clearing, own, groups, moveLeft, orderLeft};
+use frames::MoveNumbers;
+use frames::OrderNumbers;
 
 // The engine's calls with the numbers of a frame; the parameters are lent as both tables and groups.
 
@@ -31,46 +33,37 @@ pub(crate) fn open(book: &mut [i64], account: u8, kind: u8) -> u8
 }
 
 // 03
-pub(crate) fn move_collateral(book: &mut [i64], parameters: &[i64], account: u8, asset: u8, amount: i64) -> u8
+pub(crate) fn move_collateral(book: &mut [i64], parameters: &[i64], line: MoveNumbers) -> u8
     requires { ⌜ length (now parameters) ≡ 2056 ⌝ }
-    ensures { λ r. ⌜ _≡_ {A = Outcome} (record { code = r; book = now (book .exit) }) (moveOutcome (now (book .entry)) (pos account) (clearing (now (parameters .entry))) (own (now (parameters .entry))) (groups (now (parameters .entry))) (pos asset) amount) ⌝ }
+    ensures { λ r. ⌜ _≡_ {A = Outcome} (record { code = r; book = now (book .exit) }) (moveLeft (now (book .entry)) (now (parameters .entry)) line) ⌝ }
 {
     engine::move_collateral(
         book,
         &parameters[..1024],
         &parameters[1024..2048],
         &parameters[2048..],
-        account as i64,
-        asset as i64,
-        amount,
+        line.account as i64,
+        line.asset as i64,
+        line.amount,
     )
 }
 
 // 04
-pub(crate) fn order(
-    book: &mut [i64],
-    parameters: &[i64],
-    account: u8,
-    asset: u8,
-    date: u8,
-    side: u8,
-    quantity: i64,
-    money: i64,
-) -> u8
+pub(crate) fn order(book: &mut [i64], parameters: &[i64], line: OrderNumbers) -> u8
     requires { ⌜ length (now parameters) ≡ 2056 ⌝ }
-    ensures { λ r. ⌜ _≡_ {A = Outcome} (record { code = r; book = now (book .exit) }) (orderOutcome (now (book .entry)) (pos account) (clearing (now (parameters .entry))) (own (now (parameters .entry))) (groups (now (parameters .entry))) (pos asset) (pos date) (pos side) quantity money) ⌝ }
+    ensures { λ r. ⌜ _≡_ {A = Outcome} (record { code = r; book = now (book .exit) }) (orderLeft (now (book .entry)) (now (parameters .entry)) line) ⌝ }
 {
     engine::order(
         book,
         &parameters[..1024],
         &parameters[1024..2048],
         &parameters[2048..],
-        account as i64,
-        asset as i64,
-        date as i64,
-        side as i64,
-        quantity,
-        money,
+        line.account as i64,
+        line.asset as i64,
+        line.date as i64,
+        line.side as i64,
+        line.quantity,
+        line.money,
     )
 }
 

@@ -2,8 +2,8 @@ mod answer;
 mod calls;
 mod stream;
 
+pub use stream::Spot;
 pub use stream::end;
 pub use stream::feed;
-pub use stream::Spot;
 
 // The session of document 01 without input or output: a stream in any pieces, cut into lines, each answered through the engine's calls.

@@ -69,13 +69,21 @@ pub fn feed(
             continue;
         }
         if out.len() - at < ANSWER {
-            return Spot { used: i, count: held, at: at };
+            return Spot {
+                used: i,
+                count: held,
+                at: at,
+            };
         }
         at = answer::answer(book, parameters, frame_held(line, held), out, at);
         held = 0;
         i += 1;
     }
-    Spot { used: i, count: held, at: at }
+    Spot {
+        used: i,
+        count: held,
+        at: at,
+    }
 }
 
 // The end of the input: a line that has begun is answered, though its newline lacks. The bytes written to `out`.

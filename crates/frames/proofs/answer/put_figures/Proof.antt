@@ -47,9 +47,11 @@ loop-less c = search needs
 loop-again : tie.Need-loop-again Inv-loop μ-loop
 loop-again c =
     let j = c .before .before .before .before .before .before .loop in
-    let h = c .before .before .before .before .before .loop-test .taken in
-    (omega arith, omega arith,
-    laid-same (figures-next _ (j .k) h) (laid-size (omega arith) (laid-then (omega arith) (j .inv .2) (laid-same (ap (λ (z : ℤ). hexOf (n8 z)) (toZ-ofZ {w = w64} (record { sfits = c .before .before .before .put-n8-arg2 .given }))) (c .before .before .put-n8 .ensures)))))
+    let h = c .before .before .before .before .before .loop-test .taken in (
+      omega arith,
+      omega arith,
+      laid-same (figures-next _ (j .k) h) (laid-size (omega arith) (laid-then (omega arith) (j .inv .2) (laid-same (ap (λ (z : ℤ). hexOf (n8 z)) (toZ-ofZ {w = w64} (record { sfits = c .before .before .before .put-n8-arg2 .given }))) (c .before .before .put-n8 .ensures)))),
+    )
 
 same-length : tie.Need-same-length Inv-loop μ-loop
 same-length c = search needs

@@ -19,7 +19,7 @@ same-length : tie.Need-same-length
 same-length c = search needs
 
 returns : tie.Need-returns
-returns c = 
+returns c =
     let B = c .before .before .before .before .before .before in
     laid-same (answer-parts _ _) (laid-then (omega arith) (laid-then (omega arith) (B .before .before .before .before .put-byte .ensures) (B .put-figures .ensures)) (c .before .before .put .ensures))
 

@@ -32,7 +32,7 @@ read-frame-requires c κs = search needs
 
 returns-2 : tie.Need-returns-2
 unfolding lineFrame
-returns-2 c = 
+returns-2 c =
     let u = c .before .before .before .before .unhex in
     let t = c .before .before .if2 .taken in
     rw (passed (u .ensures .0) t) (c .read-frame .ensures ∙ ap frameOf (u .ensures .1 t))

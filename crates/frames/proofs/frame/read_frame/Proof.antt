@@ -1,11 +1,12 @@
 -- `frame::read_frame` meets its contract: the tests are the definition's, in its order. Assumes nothing.
-use mathlib.Core.Path.{_≡_, refl}
+use mathlib.Core.Path.{_≡_, refl, ap}
 use mathlib.Core.Bool.{true, false}
 use native.Mathlib.Omega.{arith}
 use mir.Facts.{toZ-ofZ}
 use denote.Ref.{now}
 use Rattle.whole.proofs.Tests.{passed, failed}
 use Rattle.frames.specs.Frame.{shaped, frameOf}
+use Rattle.frames.specs.declared.frame.Frame.the-variants.{Move, Order}
 use Rattle.frames.proofs.Shapes.{shaped-length}
 use borrow.Author.Needs.{needs}
 use Rattle.frames.proofs.frame.read_frame.Statement.{statement}
@@ -76,49 +77,28 @@ returns-2 c = rw (no-parameter (c .before .before .before .before), is-open (c .
 is-shaped-requires-3 : tie.Need-is-shaped-requires-3
 is-shaped-requires-3 c κs = search needs
 
-shared-slice-read-t13 : tie.Need-shared-slice-read-t13
-shared-slice-read-t13 c = omega (arith, shaped-length 11 3 _ (is-move (c .before)))
-
-shared-slice-read-t15 : tie.Need-shared-slice-read-t15
-shared-slice-read-t15 c = omega (arith, shaped-length 11 3 _ (is-move (c .before .before)))
-
-n8-at-requires-2 : tie.Need-n8-at-requires-2
-n8-at-requires-2 c κs = omega (arith, shaped-length 11 3 _ (is-move (c .before .before)))
+move-numbers-requires : tie.Need-move-numbers-requires
+move-numbers-requires c κs = shaped-length 11 3 _ (is-move c)
 
 returns-3 : tie.Need-returns-3
 unfolding frameOf
-returns-3 c = rw (no-parameter (c .before .before .before .before .before .before .before), no-open (c .before .before .before .before .before), is-move (c .before .before .before), toZ-ofZ (c .n8-at2 .ensures .1), c .n8-at2 .ensures .0) refl
+returns-3 c = rw (no-parameter (c .before .before .before .before .before), no-open (c .before .before .before), is-move (c .before)) (ap Move (c .move-numbers .ensures))
 
 is-shaped-requires-4 : tie.Need-is-shaped-requires-4
 is-shaped-requires-4 c κs = search needs
 
-shared-slice-read-t19 : tie.Need-shared-slice-read-t19
-shared-slice-read-t19 c = omega (arith, shaped-length 21 4 _ (is-order (c .before)))
-
-shared-slice-read-t21 : tie.Need-shared-slice-read-t21
-shared-slice-read-t21 c = omega (arith, shaped-length 21 4 _ (is-order (c .before .before)))
-
-shared-slice-read-t23 : tie.Need-shared-slice-read-t23
-shared-slice-read-t23 c = omega (arith, shaped-length 21 4 _ (is-order (c .before .before .before)))
-
-shared-slice-read-t25 : tie.Need-shared-slice-read-t25
-shared-slice-read-t25 c = omega (arith, shaped-length 21 4 _ (is-order (c .before .before .before .before)))
-
-n8-at-requires-3 : tie.Need-n8-at-requires-3
-n8-at-requires-3 c κs = omega (arith, shaped-length 21 4 _ (is-order (c .before .before .before .before)))
-
-n8-at-requires-4 : tie.Need-n8-at-requires-4
-n8-at-requires-4 c κs = omega (arith, shaped-length 21 4 _ (is-order (c .before .before .before .before .before)))
+order-numbers-requires : tie.Need-order-numbers-requires
+order-numbers-requires c κs = shaped-length 21 4 _ (is-order c)
 
 returns-4 : tie.Need-returns-4
 unfolding frameOf
-returns-4 c = rw (no-parameter (c .before .before .before .before .before .before .before .before .before .before .before .before), no-open (c .before .before .before .before .before .before .before .before .before .before), no-move (c .before .before .before .before .before .before .before .before), is-order (c .before .before .before .before .before .before), toZ-ofZ (c .before .n8-at3 .ensures .1), toZ-ofZ (c .n8-at4 .ensures .1), c .before .n8-at3 .ensures .0, c .n8-at4 .ensures .0) refl
+returns-4 c = rw (no-parameter (c .before .before .before .before .before .before .before), no-open (c .before .before .before .before .before), no-move (c .before .before .before), is-order (c .before)) (ap Order (c .order-numbers .ensures))
 
 is-shaped-requires-5 : tie.Need-is-shaped-requires-5
 is-shaped-requires-5 c κs = search needs
 
-shared-slice-read-t30 : tie.Need-shared-slice-read-t30
-shared-slice-read-t30 c = omega (arith, shaped-length 2 5 _ (is-roll (c .before)))
+shared-slice-read-t17 : tie.Need-shared-slice-read-t17
+shared-slice-read-t17 c = omega (arith, shaped-length 2 5 _ (is-roll (c .before)))
 
 returns-5 : tie.Need-returns-5
 unfolding frameOf
@@ -127,8 +107,8 @@ returns-5 c = rw (no-parameter (c .before .before .before .before .before .befor
 is-shaped-requires-6 : tie.Need-is-shaped-requires-6
 is-shaped-requires-6 c κs = search needs
 
-shared-slice-read-t33 : tie.Need-shared-slice-read-t33
-shared-slice-read-t33 c = omega (arith, shaped-length 2 6 _ (is-report (c .before)))
+shared-slice-read-t20 : tie.Need-shared-slice-read-t20
+shared-slice-read-t20 c = omega (arith, shaped-length 2 6 _ (is-report (c .before)))
 
 returns-6 : tie.Need-returns-6
 unfolding frameOf
@@ -151,22 +131,15 @@ read-frame-spec =
     shared-slice-read-t10
     returns-2
     is-shaped-requires-3
-    shared-slice-read-t13
-    shared-slice-read-t15
-    n8-at-requires-2
+    move-numbers-requires
     returns-3
     is-shaped-requires-4
-    shared-slice-read-t19
-    shared-slice-read-t21
-    shared-slice-read-t23
-    shared-slice-read-t25
-    n8-at-requires-3
-    n8-at-requires-4
+    order-numbers-requires
     returns-4
     is-shaped-requires-5
-    shared-slice-read-t30
+    shared-slice-read-t17
     returns-5
     is-shaped-requires-6
-    shared-slice-read-t33
+    shared-slice-read-t20
     returns-6
     returns-7)

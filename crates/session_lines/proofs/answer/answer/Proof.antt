@@ -1,27 +1,21 @@
 -- `answer::answer` meets its contract, frame by frame. Assumes nothing.
-use mathlib.Core.Path.{ap, ap₂, _∙_}
+use mathlib.Core.Path.{ap, _∙_}
 use lib.IntN.{pos}
 use mir.Syntax.{w64}
 use mir.Val.{SFits}
 use mir.Facts.{toZ-ofZ}
 use denote.Ref.{now}
-use Rattle.engine.specs.Calls.{openOutcome, moveOutcome, orderOutcome, rollOutcome}
+use Rattle.engine.specs.Calls.{openOutcome, rollOutcome}
 use Rattle.engine.specs.Report.{reportOf}
-use Rattle.session_lines.specs.Session.{parameterSet, clearing, own, groups, answered}
+use Rattle.session_lines.specs.Session.{parameterSet, clearing, own, groups, moveLeft, orderLeft, answered}
 use Rattle.session_lines.proofs.Answers.{by-call, by-setting, by-report, by-refusal}
 use borrow.Author.Needs.{needs}
 use Rattle.session_lines.proofs.answer.answer.Statement.{statement}
 use Rattle.session_lines.proofs.answer.answer.Tie as tie
 
--- the signed numbers of a frame fit
+-- the number that a parameter is set to fits
 number-fits : (c : tie.After-known-told) → SFits w64 (c .before .frame .given .0 .1 .0)
 number-fits c = search needs
-
-amount-fits : (c : tie.After-known-told3) → SFits w64 (c .before .frame3 .given .0 .1 .1 .0)
-amount-fits c = search needs
-
-money-fits : (c : tie.After-known-told4) → SFits w64 (c .before .frame4 .given .0 .1 .1 .1 .1 .0) × SFits w64 (c .before .frame4 .given .0 .1 .1 .1 .1 .1 .0)
-money-fits c = search needs
 
 enum-known-frame : tie.Need-enum-known-frame
 enum-known-frame c = search needs
@@ -122,10 +116,9 @@ same-length-7 c = search needs
 returns-3 : tie.Need-returns-3
 unfolding answered
 returns-3 c =
-    let s = c .before .before .before .before .before .before .before .before .before .before .before .before in let f = c .before .before .before .before .before .before .before .before .before .frame3 .given in let n = toZ-ofZ (amount-fits (c .before .before .before .before .before .before .before .before)) in
+    let s = c .before .before .before .before .before .before .before .before .before .before .before .before in let f = c .before .before .before .before .before .before .before .before .before .frame3 .given in
     by-call (now (s .args .book)) (now (s .args .parameters)) (s .args .frame) (now (s .args .out)) (s .args .at) _
-    (moveOutcome (now (s .args .book)) (pos (f .0 .0)) (clearing (now (s .args .parameters))) (own (now (s .args .parameters))) (groups (now (s .args .parameters))) (pos (f .0 .1 .0)) (f .0 .1 .1 .0)) (ap (answered _) (f .1))
-    (c .before .before .before .before .move-collateral .ensures ∙ ap (moveOutcome (now (s .args .book)) (pos (f .0 .0)) (clearing (now (s .args .parameters))) (own (now (s .args .parameters))) (groups (now (s .args .parameters))) (pos (f .0 .1 .0))) n) (c .before .before .put-code3 .ensures)
+    (moveLeft (now (s .args .book)) (now (s .args .parameters)) (f .0 .0)) (ap (answered _) (f .1)) (c .before .before .before .before .move-collateral .ensures) (c .before .before .put-code3 .ensures)
 
 same-length-8 : tie.Need-same-length-8
 same-length-8 c = search needs
@@ -139,10 +132,9 @@ same-length-10 c = search needs
 returns-4 : tie.Need-returns-4
 unfolding answered
 returns-4 c =
-    let s = c .before .before .before .before .before .before .before .before .before .before .before .before in let f = c .before .before .before .before .before .before .before .before .before .frame4 .given in let n = money-fits (c .before .before .before .before .before .before .before .before) in
+    let s = c .before .before .before .before .before .before .before .before .before .before .before .before in let f = c .before .before .before .before .before .before .before .before .before .frame4 .given in
     by-call (now (s .args .book)) (now (s .args .parameters)) (s .args .frame) (now (s .args .out)) (s .args .at) _
-    (orderOutcome (now (s .args .book)) (pos (f .0 .0)) (clearing (now (s .args .parameters))) (own (now (s .args .parameters))) (groups (now (s .args .parameters))) (pos (f .0 .1 .0)) (pos (f .0 .1 .1 .0)) (pos (f .0 .1 .1 .1 .0)) (f .0 .1 .1 .1 .1 .0) (f .0 .1 .1 .1 .1 .1 .0)) (ap (answered _) (f .1))
-    (c .before .before .before .before .order .ensures ∙ ap₂ (orderOutcome (now (s .args .book)) (pos (f .0 .0)) (clearing (now (s .args .parameters))) (own (now (s .args .parameters))) (groups (now (s .args .parameters))) (pos (f .0 .1 .0)) (pos (f .0 .1 .1 .0)) (pos (f .0 .1 .1 .1 .0))) (toZ-ofZ (n .0)) (toZ-ofZ (n .1))) (c .before .before .put-code4 .ensures)
+    (orderLeft (now (s .args .book)) (now (s .args .parameters)) (f .0 .0)) (ap (answered _) (f .1)) (c .before .before .before .before .order .ensures) (c .before .before .put-code4 .ensures)
 
 same-length-11 : tie.Need-same-length-11
 same-length-11 c = search needs

@@ -32,7 +32,7 @@ returns c =
     let f = fits c in
     c .before .before .put-answer .ensures
     ∙ (λ i. written (now (s c .args .out)) (s c .args .at) (answerLine (s c .args .reported .code)
-      (toZ-ofZ (f .0) i ∷ toZ-ofZ (f .1) i ∷ toZ-ofZ (f .2) i ∷ toZ-ofZ (f .3) i ∷ toZ-ofZ (f .4) i ∷ [])))
+    (toZ-ofZ (f .0) i ∷ toZ-ofZ (f .1) i ∷ toZ-ofZ (f .2) i ∷ toZ-ofZ (f .3) i ∷ toZ-ofZ (f .4) i ∷ [])))
 
 pub put-report-spec : {M : Type 1} → statement M
 put-report-spec =

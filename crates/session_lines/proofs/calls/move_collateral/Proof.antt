@@ -2,15 +2,24 @@
 use mathlib.Core.Path.{_∙_}
 use native.Mathlib.Omega.{arith}
 use lib.ListN.{length-take}
-use denote.Ref.{now}
+use mir.Syntax.{w8, w64}
+use mir.Val.{Fits, SFits}
 use mir.Facts.{toZ-ofZ}
+use denote.Ref.{now}
 use Rattle.whole.specs.Parts.{part}
 use Rattle.engine.specs.Calls.{moveOutcome}
-use Rattle.session_lines.specs.Session.{clearing, own}
+use Rattle.session_lines.specs.Session.{clearing, own, moveLeft}
 use Rattle.session_lines.proofs.Lent.{byte-is, groups-lent}
 use borrow.Author.Needs.{needs}
 use Rattle.session_lines.proofs.calls.move_collateral.Statement.{statement}
 use Rattle.session_lines.proofs.calls.move_collateral.Tie as tie
+
+abbrev s : tie.After-book → tie.Start
+s c = c .before .before .before .before .before .before .before .before .before
+
+-- the line's numbers fit
+fits : (c : tie.After-book) → Fits w8 (s c .args .line .account) × Fits w8 (s c .args .line .asset) × SFits w64 (s c .args .line .amount)
+fits c = search needs
 
 slice-aggregate-move-collateral : tie.Need-slice-aggregate-move-collateral
 slice-aggregate-move-collateral c = simp length-take (omega arith)
@@ -46,12 +55,11 @@ same-length : tie.Need-same-length
 same-length c = search needs
 
 returns : tie.Need-returns
-unfolding part
+unfolding part moveLeft
 returns c =
-    let a = c .before .before .before .before .before .before in
-    let p = now (a .args .parameters) in
+    let n = fits c in let p = now (s c .args .parameters) in
     c .before .move-collateral .ensures
-    ∙ (λ i. moveOutcome (now (a .args .book)) (byte-is (a .fits .account) i) (clearing p) (own p) (groups-lent p (a .pre) i) (byte-is (a .fits .asset) i) (toZ-ofZ (a .fits .amount) i))
+    ∙ (λ i. moveOutcome (now (s c .args .book)) (byte-is (n .0) i) (clearing p) (own p) (groups-lent p (s c .pre) i) (byte-is (n .1) i) (toZ-ofZ (n .2) i))
 
 pub move-collateral-spec : {M : Type 1} → statement M
 move-collateral-spec =

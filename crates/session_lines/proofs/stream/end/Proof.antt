@@ -30,9 +30,11 @@ returns-2 : tie.Need-returns-2
 unfolding ended
 returns-2 c =
     let s = c .before .before .before .before .before .before .before .before .before .before in
-    let said = line-said (now (s .args .book)) (now (s .args .parameters)) (now (s .args .line)) (s .args .count) _ (c .before .before .before .before .frame-held .ensures) (now (s .args .out)) 0 _ (c .before .before .answer .ensures .1) in
-    (rw (not-blank (now (s .args .line)) (s .args .count) (forty-two (c .before .before .before .before .before)) (c .before .before .before .before .before .before .before .before .if1 .left))
-    said, written-inside (now (s .args .out)) 0 _ _ (omega arith) said)
+    let said = line-said (now (s .args .book)) (now (s .args .parameters)) (now (s .args .line)) (s .args .count) _ (c .before .before .before .before .frame-held .ensures) (now (s .args .out)) 0 _ (c .before .before .answer .ensures .1) in (
+      rw (not-blank (now (s .args .line)) (s .args .count) (forty-two (c .before .before .before .before .before)) (c .before .before .before .before .before .before .before .before .if1 .left))
+          said,
+      written-inside (now (s .args .out)) 0 _ _ (omega arith) said,
+    )
 
 pub end-spec : {M : Type 1} → statement M
 end-spec = tie.close (tie.spec returns frame-held-requires answer-requires same-length returns-2)
