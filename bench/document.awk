@@ -38,7 +38,7 @@ function micro(rate) { return sprintf("%.2f", 1000000 / rate) }
 function origin() {
     print "# Benchmarks\n"
     print "The engine and the second program's library, called on the same arrays in one process, in turn. `" ENVIRON["COMMAND"] "` measures and writes this page.\n"
-    print "- Date: " ENVIRON["DATE"] "; load of the machine at the start: " ENVIRON["LOAD"] ". Other work on it moves the calls a second far more than the ratios."
+    print "- Date: " ENVIRON["DATE"] "; load of the machine at the start: " ENVIRON["LOAD"] ". Other work on it slows both programs, not always alike: a row with a wide spread was disturbed."
     print "- Machine: " ENVIRON["PROCESSOR"] "."
     print "- Engine: " ENVIRON["COMPILED"] "."
     print "- Second program: " ENVIRON["RUSTC"] ", release, opt-level 3, whole-program optimization, overflow checks on as its Cargo.toml has them."
