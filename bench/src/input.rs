@@ -1,0 +1,126 @@
+//! The tables, book and orders that both programs get. Every listed asset has another row and every account another block, so
+//! that no branch goes the same way for long: kinds 1 to 3, own rows over some assets, special delivery, not recorded, partial,
+//! shares of 0 and of the whole, several spread groups, positions of either sign, above and below the concentration limits.
+
+use second::block::{CLAIMS, COLLATERAL, NETS, OBLIGATIONS, RUBLES, holding_start};
+use second::calls::{BUY, Order, SELL};
+use second::row::{self, date_start};
+use second::tables::Lent;
+use second::units::*;
+
+/// Rubles that keep every account's limit above 0, and below what a refused order takes.
+const RUBLES_HELD: i64 = 2_000_000_000;
+const REFUSED_MONEY: i64 = 500_000_000_000;
+const REFUSED_UNITS: i64 = 900_000;
+
+pub struct Input {
+    pub clearing: Vec<i64>,
+    pub own: Vec<i64>,
+    pub groups: Vec<i64>,
+    pub book: Vec<i64>,
+    /// Each is admitted, whichever of the others were taken back before it.
+    pub admitted: Vec<Order>,
+    /// Each is refused with code 10.
+    pub refused: Vec<Order>,
+}
+
+impl Input {
+    /// With the first `listed` assets listed, and each of them held in every account.
+    pub fn new(listed: usize) -> Input {
+        let mut input = Input {
+            clearing: vec![0; TABLE],
+            own: vec![0; TABLE],
+            groups: (0..GROUPS as i64).map(|group| 10 + 5 * group).collect(),
+            book: vec![0; BOOK],
+            admitted: Vec::new(),
+            refused: Vec::new(),
+        };
+        for asset in 0..listed {
+            let place = ROW * asset..ROW * (asset + 1);
+            write_row(&mut input.clearing[place.clone()], asset as i64, 0);
+            // An own row stands over five of the sixteen assets, with other numbers than the clearing row's.
+            if asset % 3 == 1 {
+                write_row(&mut input.own[place], asset as i64, 7);
+            }
+        }
+        for account in 0..ACCOUNTS {
+            write_block(&mut input.book[BLOCK * account..BLOCK * (account + 1)], account as i64, listed);
+        }
+        for number in 0..(ACCOUNTS * ASSETS) as i64 {
+            input.admitted.push(order(number, listed, 3, 2_000_000));
+            input.refused.push(refused(number, listed));
+        }
+        input
+    }
+
+    pub fn lent(&self) -> Lent<'_> {
+        Lent { clearing: &self.clearing, own: &self.own, groups: &self.groups }
+    }
+}
+
+/// A row that keeps every rule; `more` makes the own row differ from the clearing row.
+fn write_row(numbers: &mut [i64], asset: i64, more: i64) {
+    let kind = 1 + asset % 3;
+    let price = 5_000 + 1_370 * asset + 11 * more;
+    let fall = 1_200 + 90 * asset + more;
+    let rise = if kind == row::COMMODITY { fall } else { fall + 300 };
+    numbers[row::KIND] = kind;
+    numbers[row::PRICE] = price;
+    numbers[row::ACCEPTANCE_SHARE] = [5_000, 0, 8_500, 10_000][(asset % 4) as usize];
+    numbers[row::POOL_SHARE] = [10_000, 7_500, 0, 10_000][(asset % 4) as usize];
+    numbers[row::COVERED_SALES] = (asset / 2) % 3;
+    numbers[row::SPECIAL_DELIVERY] = i64::from(asset % 5 == 4);
+    numbers[row::FALL] = fall;
+    numbers[row::RISE] = rise;
+    numbers[row::RAISED_FALL] = fall + 900;
+    numbers[row::RAISED_RISE] = rise + 900;
+    numbers[row::MARKET_LIMIT] = 400 + 700 * (asset % 4);
+    numbers[row::INTEREST_LIMIT] = 100 + 60 * (asset % 5);
+    numbers[row::GROUP] = asset % 5;
+    for date in 0..DATES as i64 {
+        let mid = 40 * date - 90 + asset + more;
+        let five = [mid, mid - 30 - date, mid + 25 + asset, mid - 70 - 2 * date, mid + 80 + 2 * asset];
+        let start = date_start(date as usize);
+        numbers[start..start + row::DATE].copy_from_slice(&five);
+    }
+}
+
+/// An open account that holds something of each listed asset on each date.
+fn write_block(block: &mut [i64], account: i64, listed: usize) {
+    block[0] = 1 + account % 3;
+    block[RUBLES] = RUBLES_HELD + 1_000 * account;
+    for date in NETS {
+        block[date] = 250_000 * (date as i64 - 5) + account;
+    }
+    for asset in 0..listed {
+        let holding = &mut block[holding_start(asset)..];
+        let mixed = account + 3 * asset as i64;
+        holding[COLLATERAL] = 130 * (mixed % 9) - 200;
+        for date in 0..DATES {
+            let turn = mixed + 5 * date as i64;
+            holding[CLAIMS.start + date] = 40 + 37 * (turn % 11);
+            holding[OBLIGATIONS.start + date] = 30 + 41 * ((turn + mixed) % 10);
+        }
+    }
+}
+
+/// The order of this number: accounts, assets, dates and sides in turn.
+fn order(number: i64, listed: usize, quantity: i64, money: i64) -> Order {
+    Order {
+        account: number % ACCOUNTS as i64,
+        asset: (number / ACCOUNTS as i64) % listed as i64,
+        date: (number + number / 16) % DATES as i64,
+        side: if number / 2 % 2 == 0 { BUY } else { SELL },
+        quantity,
+        money,
+    }
+}
+
+/// A buy for more money than the limit, or a sale of more units than it bears.
+fn refused(number: i64, listed: usize) -> Order {
+    let wanted = order(number, listed, 1, REFUSED_MONEY);
+    match wanted.side {
+        SELL => Order { quantity: REFUSED_UNITS, money: 0, ..wanted },
+        _ => wanted,
+    }
+}
