@@ -9,7 +9,7 @@ use Prim.Native.Nat.{ℕ, suc, _*_, _≤_, _<_, _^_}
 use native.Mathlib.Nat.{suc-ne-zero}
 use native.Mathlib.Omega.{arith}
 use lib.Dec.{eqb}
-use lib.IntN.{ℤ, pos, natAbs, _+ℤ_, _-ℤ_}
+use lib.IntN.{ℤ, pos, natAbs, _-ℤ_}
 use lib.Signed.{_≤ℤ_, _<ℤ_, ltZ}
 use Rattle.whole.specs.Numbers.{absℤ}
 use Rattle.whole.specs.Bounds.{_within_, _upto_, equal}
@@ -27,7 +27,7 @@ use Rattle.rates.specs.Ranges.{RowRanges}
 use Rattle.book.specs.Block.{collateral}
 use Rattle.book.specs.Ranges.{HoldingRanges}
 use Rattle.figures.specs.Collateral.{special, poolShareInForce, shareInForce, regimeOf, valued}
-use Rattle.figures.specs.Asset.{trades, position, adjustedCollateral, leftOut, valuedCollateral, worthOf, assetOf}
+use Rattle.figures.specs.Asset.{position, adjustedCollateral, leftOut, valuedCollateral, worthOf, assetOf}
 use Rattle.figures.specs.Risk.{long, short, positionSum, longSum, shortSum, marketRisk, fallCharge, riseCharge, interestOf, interestRisk}
 use Rattle.figures.specs.Ranges.{ShareRange}
 use Rattle.figures.specs.declared.Regime.{Regime}

@@ -1,8 +1,8 @@
 -- Laws of frames: a frame's shape tells its length, so a line longer than the longest frame's digits is malformed. Assumes nothing.
-use mathlib.Core.Path.{_≡_, refl, sym}
+use mathlib.Core.Path.{_≡_, refl}
 use mathlib.Core.Bool.{Bool, true, false, cond}
 use mathlib.Core.List.{List, [], _∷_}
-use Prim.Native.Nat.{ℕ, _*_, _≤_, _<_}
+use Prim.Native.Nat.{ℕ, _*_, _<_}
 use native.Mathlib.Omega.{arith}
 use borrow.Author.Tests.{eqb-true, ne-eqb}
 use lib.Dec.{ltb}
@@ -10,7 +10,6 @@ use lib.ListN.{length}
 use Rattle.whole.proofs.Tests.{and-left, and-right, first-out, true-not-false}
 use Rattle.frames.specs.Hex.{digitValue, isHex, bytesOf}
 use Rattle.frames.specs.Frame.{shaped, frameOf, lineFrame}
-use Rattle.frames.specs.declared.frame.Frame.{Frame}
 use Rattle.frames.specs.declared.frame.Frame.the-variants.{Malformed}
 
 pub shaped-length : (size kind : ℕ) (bytes : List ℕ) → shaped size kind bytes ≡ true → length bytes ≡ size

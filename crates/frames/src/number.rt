@@ -1,9 +1,9 @@
 ghost use mathlib.Core.Path.{_≡_};
-ghost use Prim.Native.Nat.{_+_, _≤_, _<_, _^_};
+ghost use Prim.Native.Nat.{_+_, _≤_, _<_};
 ghost use lib.ListN.{length};
 ghost use mir.Syntax.{w64};
 ghost use mir.Val.{toZ, ofZ, SFits};
-ghost use Rattle.frames.specs.Number.{byte, two, four, eight, n8At};
+ghost use Rattle.frames.specs.Number.{two, four, eight, n8At};
 
 // Numbers as bytes, high first; n8 is two's complement.
 

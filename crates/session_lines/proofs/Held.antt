@@ -1,17 +1,15 @@
 -- Laws of the line that has begun: held bytes grow as the line does, and a line as held has the frame of the whole line. Assumes nothing.
-use mathlib.Core.Path.{_≡_, refl, sym, ap, _∙_}
+use mathlib.Core.Path.{_≡_, refl, ap}
 use mathlib.Core.Bool.{Bool, true, false, cond}
 use mathlib.Core.List.{List, [], _∷_, _++_}
 use Prim.Native.Nat.{ℕ, _+_, _≤_, _<_}
 use native.Mathlib.Numerals.{add-one}
 use native.Mathlib.Omega.{arith}
 use lib.Dec.{leb}
-use lib.ListN.{length, take, set, length-append}
+use lib.ListN.{length, take, set}
 use lib.Seq.{take-suc-set, length-take-le}
-use borrow.Author.Tests.{le-leb, lt-leb, lt-ltb, le-ltb, leb-true, ne-eqb}
-use Rattle.frames.specs.Frame.{lineFrame}
-use Rattle.frames.proofs.Shapes.{long-line}
-use Rattle.session_lines.specs.Stream.{Begun, begun, tooLong, held, grown, frameHeld, isBlank}
+use borrow.Author.Tests.{le-leb, lt-ltb, le-ltb, leb-true, ne-eqb}
+use Rattle.session_lines.specs.Stream.{begun, tooLong, held, grown, isBlank}
 
 module _ (buffer : List ℕ) (count : ℕ) (long : length buffer ≡ 42) where
   pub held-more : (b : ℕ) → count < 42 → held (set buffer count b) (count + 1) ≡ grown (held buffer count) b

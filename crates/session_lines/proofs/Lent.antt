@@ -9,7 +9,7 @@ use mir.Syntax.{w8, w64}
 use mir.Val.{Fits, toZ}
 use mir.Facts.{toZ-pos}
 use Rattle.whole.specs.Parts.{part}
-use Rattle.session_lines.specs.Session.{clearing, own, groups}
+use Rattle.session_lines.specs.Session.{groups}
 
 pub byte-is : {b : ℕ} → Fits w8 b → toZ w64 b ≡ pos b
 byte-is f = toZ-pos w64 (omega (arith, f .fits))

@@ -4,14 +4,14 @@ use mathlib.Core.Bool.{Bool, true, false, cond}
 use mathlib.Core.List.{List, [], _∷_, _++_, append-assoc, append-nil}
 use Prim.Native.Nat.{ℕ, suc, _+_, _≤_}
 use native.Mathlib.Omega.{arith}
-use borrow.Author.Tests.{le-leb, lt-leb, leb-true}
+use borrow.Author.Tests.{leb-true}
 use lib.Dec.{eqb, leb}
 use lib.ListN.{length, take}
 use Rattle.frames.specs.Frame.{lineFrame}
 use Rattle.frames.specs.Answer.{Written, written}
 use Rattle.frames.specs.declared.frame.Frame.{Frame}
 use Rattle.session_lines.specs.Session.{State, Answered, answered, linesFrom, answers, session, start}
-use Rattle.session_lines.specs.Stream.{Begun, begun, Stream, grown, isBlank, frameHeld, closed, closing, Fed, fed, ended}
+use Rattle.session_lines.specs.Stream.{begun, Stream, grown, closed, closing, Fed, fed, ended}
 use Rattle.session_lines.specs.Pieces.{Call, empty, text, SoFar, soFar, opening}
 use Rattle.session_lines.proofs.Steps.{written-inside}
 use Rattle.session_lines.proofs.Whole.{cutLine, grown-cut, frame-cut, blank-cut, answer-fits, text-written}

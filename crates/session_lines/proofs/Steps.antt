@@ -1,13 +1,13 @@
 -- What `feed` does with the next byte of a piece, as laws of its definition. Assumes nothing.
 use mathlib.Core.Path.{_≡_, refl, sym, ap, subst, _∙_}
 use mathlib.Core.Bool.{Bool, true, false, cond}
-use mathlib.Core.List.{List, [], _∷_}
-use Prim.Native.Nat.{ℕ, suc, _+_, _≤_, _<_}
+use mathlib.Core.List.{List, []}
+use Prim.Native.Nat.{ℕ, _+_, _≤_, _<_}
 use native.Mathlib.Numerals.{add-one}
 use native.Mathlib.Omega.{arith}
 use lib.Dec.{leb}
 use lib.IntN.{ℤ}
-use lib.ListN.{length, take, drop, getD}
+use lib.ListN.{length, drop, getD}
 use lib.Seq.{drop-cons, drop-length}
 use borrow.Author.Tests.{eq-eqb, ne-eqb, le-leb, lt-leb, leb-true}
 use Rattle.whole.specs.Parts.{put}
@@ -15,7 +15,7 @@ use Rattle.whole.proofs.Parts.{put-length}
 use Rattle.frames.specs.Answer.{Written, written}
 use Rattle.frames.specs.declared.frame.Frame.{Frame}
 use Rattle.session_lines.specs.Session.{State, answered}
-use Rattle.session_lines.specs.Stream.{Begun, begun, held, grown, frameHeld, Stream, closed, closing, Fed, fed}
+use Rattle.session_lines.specs.Stream.{Begun, begun, held, grown, frameHeld, Stream, closed, closing, fed}
 
 -- the stream that memory holds
 abbrev pub streamIn : List ℤ → List ℤ → List ℕ → ℕ → Stream

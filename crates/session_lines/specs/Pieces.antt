@@ -6,7 +6,7 @@ use lib.ListN.{take}
 use Prim.Native.Nat.{ℕ}
 use Rattle.frames.specs.Answer.{Written}
 use Rattle.session_lines.specs.Session.{start}
-use Rattle.session_lines.specs.Stream.{begun, Stream, Fed, fed}
+use Rattle.session_lines.specs.Stream.{begun, Stream, fed}
 
 -- what is lent to one call
 pub record Call : Type 0 where

@@ -2,7 +2,7 @@ ghost use mathlib.Core.Path.{_≡_};
 ghost use Prim.Native.Nat.{_≤_};
 ghost use lib.ListN.{length};
 ghost use Rattle.frames.specs.Answer.{Written};
-ghost use Rattle.session_lines.specs.Stream.{held, grown, frameHeld, Stream, Fed, fed, Took, ended};
+ghost use Rattle.session_lines.specs.Stream.{held, grown, frameHeld, Fed, fed, Took, ended};
 use crate::answer;
 use frames::Frame;
 

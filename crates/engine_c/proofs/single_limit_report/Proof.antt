@@ -1,19 +1,16 @@
 -- `engine_c::single_limit_report` meets its contract: a buffer of five numbers takes the five figures, any other is turned away. Assumes nothing.
-use mathlib.Core.Path.{_≡_, refl, sym, ap, _∙_}
+use mathlib.Core.Path.{_≡_, refl, ap, _∙_}
 use mathlib.Core.Bool.{cond}
 use mathlib.Core.List.{List, [], _∷_}
-use Prim.Native.Nat.{ℕ, _<_, _^_}
 use native.Mathlib.Omega.{arith}
 use lib.Dec.{eqb}
 use lib.IntN.{ℤ}
 use lib.ListN.{length, set, length-set}
-use lib.Signed.{mag}
 use mir.Syntax.{w64}
 use mir.Val.{SFits}
 use mir.Facts.{toZ-ofZ}
-use borrow.Author.Needs.{needs, sfits-of}
+use borrow.Author.Needs.{needs}
 use borrow.Author.Tests.{eq-eqb, ne-eqb}
-use Rattle.figures.specs.declared.Figures.{Figures}
 use Rattle.engine.specs.Report.{reportOf}
 use Rattle.engine.specs.declared.Reported.{Reported}
 use Rattle.engine_c.specs.Face.{Lent, five, lentReport}

@@ -1,5 +1,5 @@
 -- `frame::frame_of` meets its contract: a line that is too long has no form; of any other the bytes decide. Assumes nothing.
-use mathlib.Core.Path.{_≡_, refl, sym, ap, _∙_}
+use mathlib.Core.Path.{refl, sym, ap, _∙_}
 use native.Mathlib.Omega.{arith}
 use lib.Seq.{length-take-le}
 use Rattle.whole.proofs.Tests.{passed, failed}

@@ -4,7 +4,6 @@ use mathlib.Core.List.{List}
 use Prim.Native.Nat.{ℕ, _-_, _≤_}
 use native.Mathlib.Omega.{arith}
 use lib.ListN.{length, drop}
-use denote.Ref.{now}
 use borrow.Author.Needs.{needs}
 use Rattle.session_lines.specs.Stream.{Stream, closing, fed}
 use Rattle.session_lines.proofs.Took.{took}
