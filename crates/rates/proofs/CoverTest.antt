@@ -1,11 +1,12 @@
--- The cover test's arithmetic on a row in its ranges: no step overflows, so what code holds is what the definition says; and the width is from
--- 0 to 10^7.
+-- What the cover test says, and its arithmetic on a row in its ranges: no step overflows, so what code holds is what the definition says; and the
+-- width is from 0 to 10^7.
 -- Assumes nothing.
 use mathlib.Core.Path.{_≡_, ap₂}
+use mathlib.Core.Bool.{true, not}
 use mathlib.Core.List.{List}
 use native.Mathlib.Omega.{arith}
 use lib.IntN.{ℤ, _+ℤ_, _-ℤ_, _*ℤ_}
-use lib.Signed.{leZ}
+use lib.Signed.{leZ, _≤ℤ_}
 use mir.Syntax.{w64}
 use mir.Val.{SFits}
 use Rattle.whole.specs.Numbers.{maxℤ}
@@ -14,10 +15,16 @@ use Rattle.whole.proofs.Expressions.{Expression, var, lit, _⊕_, _⊖_, _⊛_,
 use Rattle.whole.proofs.Machine.{back, Runs, fits!, need!, runs}
 use Rattle.whole.proofs.Bounds.{upto-within, product-within}
 use Rattle.whole.proofs.Rules.{ints}
+use Rattle.whole.proofs.Tests.{and-right}
 use Rattle.rates.specs.Units.{theWhole}
-use Rattle.rates.specs.Row.{price, fall, raisedRate, mid, outerLow, outerUp, level}
-use Rattle.rates.specs.InForce.{outerWidth}
+use Rattle.rates.specs.Row.{unlisted, price, fall, raisedRate, mid, outerLow, outerUp, level}
+use Rattle.rates.specs.InForce.{outerWidth, coverTest}
 use Rattle.rates.specs.Ranges.{DateRanges, RowRanges}
+
+pub cover-says : (row : List ℤ) → coverTest row ≡ true → (raisedRate row fall *ℤ price row) ≤ℤ (theWhole *ℤ (level row 0 -ℤ outerWidth row 0))
+unfolding coverTest
+cover-says row e =
+    let test = and-right (not (unlisted row)) (leZ (raisedRate row fall *ℤ price row) (theWhole *ℤ (level row 0 -ℤ outerWidth row 0))) e in omega ints
 
 module _ (row : List ℤ) (r : RowRanges row) where
   today : DateRanges row 0
