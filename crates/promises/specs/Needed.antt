@@ -1,6 +1,6 @@
--- Nothing of demand 3 can be left out (specs/Deposit): of S1's account, a deposit lowers the limit where the row does not pass the cover test, and
--- where it is marked partial. And demand 3 is not all that is demanded: a report of one fixed figure, which the first statement lets through
--- (proofs/OneFigure), is refused over S1 and S2. All by computation.
+-- Neither condition on the asset can be left out of demand 3 (specs/Deposit): in S1's account a deposit lowers the limit where the row in force does not
+-- pass the cover test, and where it is marked partial. And demand 3 is not all that is demanded: a report of one fixed figure, which its first
+-- statement lets through (proofs/OneFigure), is refused by demand 2 over S1 and S2. All by computation.
 -- Assumes nothing.
 use mathlib.Core.Path.{_≡_, refl, ap}
 use mathlib.Core.Bool.{true}
