@@ -14,15 +14,12 @@ use Rattle.whole.specs.Numbers.{dividedUp}
 use Rattle.whole.specs.Sums.{Σ<}
 use Rattle.whole.specs.Parts.{number}
 use Rattle.whole.proofs.Expressions.{Expression, var, lit, neg, size, _⊕_, _⊖_, _⊛_, _⊔_, le!, eq!, le?, eq?}
-use Rattle.whole.proofs.Numbers.{*ℤ-mono, *ℤ-monoʳ}
-use Rattle.whole.proofs.Rounding.{up-least}
 use Rattle.whole.proofs.Sums.{sum-one}
 use Rattle.whole.proofs.Rules.{ints}
-use Rattle.rates.specs.Units.{theWhole}
 use Rattle.rates.specs.Row.{price, fall, rise, raisedRate, level}
 use Rattle.rates.specs.InForce.{outerWidth, coverTest}
 use Rattle.rates.specs.Ranges.{RowRanges}
-use Rattle.rates.proofs.CoverTest.{cover-says}
+use Rattle.rates.proofs.CoverTest.{cover-pays}
 use Rattle.figures.specs.Collateral.{special}
 use Rattle.figures.specs.Risk.{long, short, sideRisk, positionSum, marketRisk, fallCharge, riseCharge, interestOf, interestRisk}
 use Rattle.figures.specs.Limit.{longRisk, shortRisk}
@@ -31,26 +28,7 @@ use Rattle.figures.proofs.Sides.{side-mono, side-step, interest-mono, i
 use Rattle.figures.proofs.MarketSides.{long-risk-is, short-risk-is, market-by-side}
 use Rattle.figures.proofs.Better.{Better}
 
--- ---- the cover test pays for the raised fall rate of up to δ units, rounded up
-cover-pays : (row : List ℤ) → RowRanges row → coverTest row ≡ true → (n δ : ℤ) → n ≤ℤ δ → pos 0 ≤ℤ δ
-    → dividedUp (raisedRate row fall *ℤ n *ℤ price row) 10000 ≤ℤ (δ *ℤ (level row 0 -ℤ outerWidth row 0))
-cover-pays row r e n δ h z =
-    let R = raisedRate row fall in
-    let q = price row in
-    let left = level row 0 -ℤ outerWidth row 0 in
-    let charged = R *ℤ n *ℤ q in
-    let most = R *ℤ δ *ℤ q in
-    let turned = R *ℤ q *ℤ δ in
-    up-least 10000 (omega arith) charged (δ *ℤ left)
-    (le! (var charged) (lit 10000 ⊛ (var δ ⊛ var left))
-    (omega (
-      arith,
-      le? (var charged) (var most) (*ℤ-monoʳ q (R *ℤ n) (R *ℤ δ) (r .price-upto .low) (*ℤ-mono R n δ (r .side fall (omega arith) .raised-upto .low) h)),
-      eq? (var most) (var turned) (eq! (var R ⊛ var δ ⊛ var q) (var R ⊛ var q ⊛ var δ) (omega arith)),
-      le? (var turned) (lit 10000 ⊛ var left ⊛ var δ) (*ℤ-monoʳ δ (R *ℤ q) (theWhole *ℤ left) z (cover-says row e)),
-    )))
-
--- ---- positions p of which date 0 is raised by δ
+-- positions p of which date 0 is raised by δ
 pub record RaisedBy (δ : ℤ) (p p′ : List ℤ) : Type 0 where
   pub from-zero : pos 0 ≤ℤ δ
   pub first : number p′ 0 ≡ number p 0 +ℤ δ

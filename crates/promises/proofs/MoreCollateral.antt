@@ -82,11 +82,15 @@ module _ (book clearing own groups : List ℤ) (account : ℤ) (answers : report
   same-number k false e = let q = eqb-false k place e in d .elsewhere k q ∙ sym (number-beside book place amount k q)
 
   book-is : other ≡ added book place amount
-  book-is = ext-getD (pos 0) other (added book place amount) (d .same-length ∙ sym (added-length book place amount)) (λ k l. same-number k (eqb k place) refl)
+  book-is =
+      ext-getD (pos 0) other (added book place amount) (d .same-length ∙ sym (added-length book place amount))
+      (λ k l. same-number k (eqb k place) refl)
 
   block-is : after ≡ moved before asset amount
   unfolding moved
-  block-is = ap (λ (b : List ℤ). blockOf b (natAbs account)) book-is ∙ block-added book (natAbs account) (moveAt asset) amount (move-inside asset moves)
+  block-is =
+      ap (λ (b : List ℤ). blockOf b (natAbs account)) book-is
+      ∙ block-added book (natAbs account) (moveAt asset) amount (move-inside asset moves)
 
   -- the limit of any block is not lower with it
   not-lower : (b : List ℤ) → length b ≡ 288 → limitOf b clearing own groups ≤ℤ limitOf (moved b asset amount) clearing own groups

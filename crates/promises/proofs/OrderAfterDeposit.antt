@@ -30,8 +30,8 @@ use Rattle.engine.proofs.Allowed.{trade-ranges}
 use Rattle.engine.proofs.Gates.{block-good}
 use Rattle.promises.proofs.MoreCollateral.{Richer}
 
-module _ (book other clearing own groups : List ℤ) (account : ℤ) (asset : ℕ) (amount : ℤ) (r : Richer book other clearing own groups account asset amount)
-    (ordered date side quantity money : ℤ) where
+module _ (book other clearing own groups : List ℤ) (account : ℤ) (asset : ℕ) (amount : ℤ)
+    (r : Richer book other clearing own groups account asset amount) (ordered date side quantity money : ℤ) where
   abbrev before : List ℤ
   before = blockOf book (natAbs account)
 

@@ -1,5 +1,5 @@
--- Neither condition on the asset can be left out of demand 3 (specs/Deposit): in S1's account a deposit lowers the limit where the row in force does not
--- pass the cover test, and where it is marked partial. And demand 3 is not all that is demanded: a report of one fixed figure, which its first
+-- Neither condition on the asset can be left out of demand 3 (specs/Deposit): in S1's account a deposit lowers the limit where the row in force does
+-- not pass the cover test, and where it is marked partial. And demand 3 is not all that is demanded: a report of one fixed figure, which its first
 -- statement lets through (proofs/OneFigure), is refused by demand 2 over S1 and S2. All by computation.
 -- Assumes nothing.
 use mathlib.Core.Path.{_≡_, refl, ap}
@@ -139,11 +139,8 @@ abbrev pub Meets : Report → Sum → Type 0
 Meets report s = five (reported report (bookIn s) (clearingIn s) .figures) ≡ s .result
 
 -- the engine's does, of S1 and S2; one of a fixed figure does not
-pub S1-met : Meets reportOf S1
-S1-met = ap (figuresAt 4) answers
-
-pub S2-met : Meets reportOf S2
-S2-met = ap (figuresAt 5) answers
+pub both-met : Meets reportOf S1 × Meets reportOf S2
+both-met = (ap (figuresAt 4) answers, ap (figuresAt 5) answers)
 
 pub one-figure-refused : (fixed : Figures) → Meets (oneFigure fixed) S1 → Meets (oneFigure fixed) S2 → ⊥
 unfolding oneFigure leaves
