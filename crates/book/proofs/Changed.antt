@@ -1,17 +1,18 @@
 -- Laws of an amount added to one number of a block. Assumes nothing.
-use mathlib.Core.Path.{_≡_, sym, ap, _∙_}
+use mathlib.Core.Path.{_≡_, refl, sym, ap, _∙_}
 use mathlib.Core.Logic.{_⊎_, _≢_}
 use mathlib.Core.List.{List}
-use Prim.Native.Nat.{ℕ, _+_, _≤_, _<_}
+use Prim.Native.Nat.{ℕ, _+_, _*_, _≤_, _<_}
 use native.Mathlib.Omega.{arith}
 use lib.IntN.{ℤ, pos, negℤ, _+ℤ_}
 use lib.ListN.{length, set, length-set}
 use lib.Seq.{getD-set-same, getD-set-other, set-set, set-comm, set-getD}
 use Rattle.whole.specs.Parts.{part, number}
 use Rattle.whole.proofs.Expressions.{var, neg, _⊕_, eq! }
-use Rattle.whole.proofs.Parts.{part-at}
+use Rattle.whole.proofs.Parts.{part-at, put-part}
+use Rattle.book.specs.Block.{blockOf, putBlock}
 use Rattle.book.specs.Changes.{added}
-use Rattle.whole.proofs.Lists.{part-set, part-set-other}
+use Rattle.whole.proofs.Lists.{part-set, part-set-other, put-set}
 
 module _ (block : List ℤ) (k : ℕ) (x : ℤ) where
   pub added-length : length (added block k x) ≡ length block
@@ -54,3 +55,18 @@ module _ (block : List ℤ) (k : ℕ) (x : ℤ) where
   pub part-beside : (a n : ℕ) → (k < a) ⊎ (a + n ≤ k) → part a n (added block k x) ≡ part a n block
   unfolding added
   part-beside a n h = part-set-other a n block (number block k +ℤ x) k h
+
+-- an amount added in the account's block is added in the book
+module _ (book : List ℤ) (i k : ℕ) (x : ℤ) (h : k < 288) where
+  pub block-added : blockOf (added book (288 * i + k) x) i ≡ added (blockOf book i) k x
+  block-added = part-added book (288 * i + k) x (288 * i) 288 k h refl
+
+  put-beside : (block : List ℤ) → putBlock (added book (288 * i + k) x) i block ≡ putBlock book i block
+  unfolding added
+  put-beside block = put-set (288 * i) 288 book block k (number book (288 * i + k) +ℤ x) h
+
+  pub put-added : length book ≡ 4608 → i < 16 → putBlock book i (added (blockOf book i) k x) ≡ added book (288 * i + k) x
+  put-added long l =
+      ap (putBlock book i) (sym block-added)
+      ∙ sym (put-beside (blockOf (added book (288 * i + k) x) i))
+      ∙ put-part (pos 0) (288 * i) 288 (added book (288 * i + k) x) (omega (arith, added-length book (288 * i + k) x))

@@ -11,6 +11,7 @@ pub mod Moves
 pub mod Opened
 pub mod Traded
 pub mod Moved
+pub mod MoveAndTrade
 pub mod Codes
 pub mod DayLater
 pub mod Rolled

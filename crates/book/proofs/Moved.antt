@@ -1,8 +1,8 @@
 -- What a move leaves, for callers: taken back it leaves nothing, it changes one number, and a good block in bounds after it is good.
 -- Assumes nothing.
-use mathlib.Core.Path.{_≡_, sym, subst}
+use mathlib.Core.Path.{_≡_, refl, sym, ap, _∙_, subst}
 use mathlib.Core.Logic.{_⊎_, inl, inr, ⊎-elim, _≢_}
-use mathlib.Core.Bool.{true, false}
+use mathlib.Core.Bool.{true, false, _||_}
 use mathlib.Core.List.{List}
 use Prim.Native.Nat.{ℕ, _+_, _*_, _≤_, _<_}
 use native.Mathlib.Omega.{arith}
@@ -12,19 +12,22 @@ use Rattle.whole.specs.Bounds.{isZero}
 use Rattle.whole.specs.Parts.{number}
 use Rattle.whole.proofs.Numbers.{lt-or-ge}
 use Rattle.rates.specs.Tables.{listed}
-use Rattle.book.specs.Block.{accountKind, moveAt, rubleNumbers, holdingOf, collateral}
-use Rattle.book.specs.Rules.{inBounds, goodBlock, holdsListed}
+use Rattle.book.specs.Block.{accountKind, rubles, moveAt, rubleNumbers, holdingOf, collateral}
+use Rattle.book.specs.Rules.{allZero, inBounds, goodBlock, holdsListed}
 use Rattle.book.specs.Changes.{added, moved}
 use Rattle.book.specs.Ranges.{MoveAsset}
 use Rattle.book.proofs.Blocks.{InHead}
 use Rattle.book.proofs.Changed.{added-length, number-beside, added-back, part-added, part-beside}
 use Rattle.book.proofs.Good.{still-good}
-use Rattle.book.proofs.Holdings.{holds-listed-but}
+use Rattle.book.proofs.Holdings.{listed-at, listed-by, holds-listed-but}
 use Rattle.book.proofs.Moves.{at-rubles, at-asset}
 
--- the place is the asset's or the rubles'
-at-place : (P : ℕ → Type 0) (asset : ℕ) → MoveAsset asset → (asset < 16 → P (16 + 17 * asset)) → P 1 → P (moveAt asset)
+-- the place is the asset's or the rubles', and inside a block
+pub at-place : (P : ℕ → Type 0) (asset : ℕ) → MoveAsset asset → (asset < 16 → P (16 + 17 * asset)) → P 1 → P (moveAt asset)
 at-place P asset m f g = ⊎-elim (λ l. subst P (sym (at-asset (λ e. omega arith))) (f l)) (λ e. subst P (sym (at-rubles e)) g) m
+
+pub move-inside : (asset : ℕ) → MoveAsset asset → moveAt asset < 288
+move-inside asset m = at-place (λ k. k < 288) asset m (λ l. omega arith) (omega arith)
 
 module _ (block : List ℤ) (asset : ℕ) (amount : ℤ) where
   pub moved-length : length (moved block asset amount) ≡ length block
@@ -73,3 +76,14 @@ module _ (block : List ℤ) (asset : ℕ) (amount : ℤ) where
   pub moved-rubles : asset ≡ 255 → rubleNumbers (moved block asset amount) ≡ set (rubleNumbers block) 0 (number (rubleNumbers block) 0 +ℤ amount)
   unfolding moved added
   moved-rubles e = part-added block (moveAt asset) amount 1 9 0 (omega arith) (at-rubles e)
+
+-- it leaves every holding
+module _ (block : List ℤ) (amount : ℤ) where
+  pub rubles-holding : (a : ℕ) → holdingOf (moved block rubles amount) a ≡ holdingOf block a
+  unfolding moved
+  rubles-holding a = part-beside block (moveAt rubles) amount (16 + 17 * a) 17 (inl (omega (arith, at-rubles {asset = rubles} refl)))
+
+  pub rubles-listed : (clearing : List ℤ) → holdsListed block clearing 16 ≡ true → holdsListed (moved block rubles amount) clearing 16 ≡ true
+  rubles-listed clearing e =
+      listed-by (moved block rubles amount) clearing 16
+      (λ a l. ap (λ (h : List ℤ). listed clearing a || allZero h) (rubles-holding a) ∙ listed-at block clearing 16 a l e)

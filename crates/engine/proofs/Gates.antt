@@ -2,8 +2,9 @@
 use mathlib.Core.Path.{_≡_, refl, sym, ap, _∙_}
 use mathlib.Core.Bool.{true, false, not, _&&_}
 use mathlib.Core.List.{List, [], _∷_, _++_}
-use Prim.Native.Nat.{ℕ}
-use lib.IntN.{ℤ}
+use Prim.Native.Nat.{ℕ, _<_}
+use native.Mathlib.Omega.{arith}
+use lib.IntN.{ℤ, natAbs}
 use lib.ListN.{length}
 use lib.Dec.{eqb}
 use borrow.Author.Tests.{eq-eqb, eqb-true, not-false}
@@ -14,9 +15,11 @@ use Rattle.whole.proofs.Tests.{and-left, and-right}
 use Rattle.rates.specs.Tables.{lengthsRight, soundTables, checkCode}
 use Rattle.rates.specs.Ranges.{TableRanges}
 use Rattle.rates.proofs.Sound.{ranges}
-use Rattle.book.specs.Block.{accountKind}
+use Rattle.book.specs.Block.{blockOf, accountKind}
 use Rattle.book.specs.Rules.{goodBlock, holdsListed}
+use Rattle.book.proofs.Blocks.{block-length}
 use Rattle.engine.specs.Refused.{accountRight, bookGate, tableGate, holdingRefusals}
+use Rattle.engine.proofs.Parameters.{index-is}
 
 -- the refusals of the table check, and then the account's
 module _ (book clearing own groups : List ℤ) (account : ℤ) (long : length book ≡ 4608) where
@@ -57,7 +60,7 @@ module _ (book clearing own groups : List ℤ) (account : ℤ) (e : firstCode (t
   lengths : eqb (length book) 4608 && lengthsRight clearing own groups ≡ true
   lengths = not-false _ (off 0)
 
-  check-passed : checkCode clearing own groups ≡ 0
+  pub check-passed : checkCode clearing own groups ≡ 0
   unfolding checkCode
   check-passed = sym (code (miss (ap not (and-right (eqb (length book) 4608) (lengthsRight clearing own groups) lengths)) (miss (off 1) none)))
 
@@ -68,10 +71,20 @@ module _ (book clearing own groups : List ℤ) (account : ℤ) (e : firstCode (t
     account-right = not-false _ (off 2);
   }
 
+  -- the account's block is there
+  pub account-below : natAbs account < 16
+  account-below = let h = index-is account 15 (table-passed .account-right) in omega arith
+
+  pub block-long : length (blockOf book (natAbs account)) ≡ 288
+  block-long = block-length book (table-passed .long) (natAbs account) account-below
+
 -- a block past codes 6 and 4
 module _ (block clearing : List ℤ) (e : firstCode (holdingRefusals block clearing) ≡ 0) where
   pub block-good : goodBlock block ≡ true
   block-good = and-left (goodBlock block) (holdsListed block clearing 16) (not-false _ (none-holds (holdingRefusals block clearing) tt e 0))
+
+  pub block-listed : holdsListed block clearing 16 ≡ true
+  block-listed = and-right (goodBlock block) (holdsListed block clearing 16) (not-false _ (none-holds (holdingRefusals block clearing) tt e 0))
 
   pub block-open : isZero (accountKind block) ≡ false
   block-open = none-holds (holdingRefusals block clearing) tt e 1

@@ -1,15 +1,17 @@
--- The report: its answer where its refusals give a code, and where they give none. Assumes nothing.
+-- The report: its answer where its refusals give a code, and where they give none; and what an answer of 0 says. Assumes nothing.
 use mathlib.Core.Path.{_≡_, sym, ap, _∙_}
 use mathlib.Core.List.{List, _++_}
 use Prim.Native.Nat.{ℕ}
 use lib.Dec.{T}
 use lib.IntN.{ℤ, natAbs}
 use Rattle.whole.specs.Refusals.{Refusal, firstCode, leaves}
-use Rattle.whole.proofs.Refusals.{coded, goes-on, kept, changed, stops}
+use Rattle.whole.proofs.Refusals.{coded, first-zero, second-zero, goes-on, kept, changed, stops}
 use Rattle.book.specs.Block.{blockOf}
 use Rattle.book.proofs.Blocks.{lent-block}
+use Rattle.figures.specs.Limit.{blockFigures}
 use Rattle.figures.specs.declared.Figures.{Figures}
-use Rattle.engine.specs.Report.{noFigures}
+use Rattle.engine.specs.Refused.{tableGate, holdingRefusals, limitOf}
+use Rattle.engine.specs.Report.{reportOf, noFigures}
 use Rattle.engine.specs.declared.Reported.{Reported}
 use Rattle.engine.proofs.Lent.{lent}
 
@@ -37,3 +39,29 @@ module _ (book : List ℤ) (account : ℤ) (gate : List Refusal) (on : List ℤ 
   reported c z i at r e =
       e ∙ ap (λ (b : List ℤ). answerOf (firstCode (on b)) (found b)) (lent-block book i ∙ ap (blockOf book) at)
       ∙ ap (λ (k : ℕ). answerOf k (found block)) (sym (goes-on gate (on block) c z))
+
+-- ---- a report that answers 0: its refusals in two lists, and its limit
+module _ (book clearing own groups : List ℤ) (account : ℤ) where
+  abbrev gate : List Refusal
+  gate = tableGate book clearing own groups account
+
+  abbrev held : List Refusal
+  held = holdingRefusals (blockOf book (natAbs account)) clearing
+
+  pub gate-passed : reportOf book clearing own groups account .code ≡ 0 → firstCode gate ≡ 0
+  unfolding reportOf
+  gate-passed = first-zero gate held
+
+  pub holdings-passed : reportOf book clearing own groups account .code ≡ 0 → firstCode held ≡ 0
+  unfolding reportOf
+  holdings-passed = second-zero gate held tt
+
+  pub answers-0 : firstCode gate ≡ 0 → firstCode held ≡ 0 → reportOf book clearing own groups account .code ≡ 0
+  unfolding reportOf
+  answers-0 g h = goes-on gate held tt g ∙ h
+
+  pub limit-reported : reportOf book clearing own groups account .code ≡ 0
+      → reportOf book clearing own groups account .figures .limit ≡ limitOf (blockOf book (natAbs account)) clearing own groups
+  unfolding reportOf
+  limit-reported e =
+      ap (λ (f : Figures). f .limit) (sym (changed (firstCode (gate ++ held)) (blockFigures (blockOf book (natAbs account)) clearing own groups) noFigures e))

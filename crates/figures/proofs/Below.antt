@@ -1,14 +1,11 @@
 -- The five figures of ONE block, of tables that pass the check: each is below 2^53 in size, and the discount lies from 0 to the market risk.
 -- Assumes nothing.
-use mathlib.Core.Path.{_≡_, refl}
-use mathlib.Core.Bool.{Bool, true, false, cond}
 use mathlib.Core.List.{List}
-use Prim.Native.Nat.{ℕ, zero, suc, _+_, _<_, _^_}
+use Prim.Native.Nat.{ℕ, _+_, _<_, _^_}
 use native.Mathlib.Omega.{arith}
-use borrow.Author.Tests.{eqb-true, ne-eqb}
 use lib.Dec.{eqb}
 use lib.IntN.{ℤ, pos, natAbs, _+ℤ_, _-ℤ_}
-use lib.Signed.{_≤ℤ_, ltZ, ≤ℤ-refl}
+use lib.Signed.{_≤ℤ_, ltZ}
 use Rattle.whole.specs.Numbers.{minℤ}
 use Rattle.whole.specs.Bounds.{_within_, _upto_}
 use Rattle.whole.specs.Sums.{Σ<}
@@ -18,7 +15,6 @@ use Rattle.whole.proofs.Expressions.{var, lit, _⊕_, _⊖_, _⊓_, le!, is}
 use Rattle.whole.proofs.Numbers.{≤ℤ-trans}
 use Rattle.whole.proofs.Bounds.{upto-within}
 use Rattle.whole.proofs.Sums.{sum-le, sum-within, sum-from-zero, sum-swap}
-use Rattle.whole.proofs.Tabulated.{tabulated-at}
 use Rattle.whole.proofs.Rules.{ints}
 use Rattle.rates.specs.InForce.{inForce}
 use Rattle.rates.specs.Ranges.{TableRanges}
@@ -29,36 +25,8 @@ use Rattle.figures.specs.Limit.{longRisk, shortRisk, groupOf, inGroup, t
 use Rattle.figures.specs.declared.Asset.{Asset}
 use Rattle.figures.specs.declared.Figures.{Figures}
 use Rattle.figures.proofs.Discount.{discount-from-zero, discount-below}
+use Rattle.figures.proofs.Groups.{choice-from-zero, choice-below, one-group, long-at, short-at}
 use Rattle.figures.proofs.Sizes.{market-size, interest-size, asset-units, asset-worth}
-
--- a row stands in at most one of the groups 1 to n
-module _ (row : List ℤ) (x : ℤ) (z : pos 0 ≤ℤ x) where
-  abbrev part-of : ℕ → ℤ
-  part-of g = inGroup (1 + g) row x
-
-  no-group : (n : ℕ) → n < groupOf row → Σ< n part-of ≡ pos 0
-  unfolding inGroup Σ<
-  no-group zero h = refl
-  no-group (suc n) h =
-      rw (no-group n (omega arith), ne-eqb (groupOf row) (1 + n) (λ (e : groupOf row ≡ 1 + n). absurd (omega arith))) refl
-
-  one-group : (n : ℕ) → Σ< n part-of ≤ℤ x
-  unfolding inGroup Σ<
-  one-group zero = z
-  one-group (suc n) = by (eqb (groupOf row) (1 + n)) refl (one-group n)
-    where
-      by : (t : Bool) → eqb (groupOf row) (1 + n) ≡ t → Σ< n part-of ≤ℤ x → (Σ< n part-of +ℤ cond t x (pos 0)) ≤ℤ x
-      by true e h = let q = eqb-true (groupOf row) (1 + n) e in rw (no-group n (omega arith)) (le! (lit 0 ⊕ var x) (var x) (omega arith))
-      by false e h = le! (var (Σ< n part-of) ⊕ lit 0) (var x) (omega ints)
-
--- x or nothing
-choice-from-zero : (t : Bool) {x : ℤ} → pos 0 ≤ℤ x → pos 0 ≤ℤ cond t x (pos 0)
-choice-from-zero true h = h
-choice-from-zero false h = ≤ℤ-refl _
-
-choice-below : (t : Bool) {x : ℤ} → pos 0 ≤ℤ x → cond t x (pos 0) ≤ℤ x
-choice-below true h = ≤ℤ-refl _
-choice-below false h = h
 
 -- ---- every figure, in size
 pub record Below2^53 (f : Figures) : Type 0 where
@@ -119,14 +87,6 @@ module _ (block clearing own groups : List ℤ) (b : BlockRanges block) (t : Tab
       record { low = z; high = omega ints; fits = w .fits }
 
   -- ---- the discount is at most the long sides of the groups, and those are at most the market risk
-  long-at : (g : ℕ) → g < 9 → number longs g ≡ Σ< 16 (λ a. inGroup g (rows a) (longRisk (rows a) (xs a .positions)))
-  unfolding totalsOf
-  long-at g l = tabulated-at _ 9 g (pos 0) l
-
-  short-at : (g : ℕ) → g < 9 → number shorts g ≡ Σ< 16 (λ a. inGroup g (rows a) (shortRisk (rows a) (xs a .positions)))
-  unfolding totalsOf
-  short-at g l = tabulated-at _ 9 g (pos 0) l
-
   long-risk-from-zero : (a : ℕ) → a < 16 → pos 0 ≤ℤ longRisk (rows a) (xs a .positions)
   unfolding longRisk
   long-risk-from-zero a l = choice-from-zero (ltZ (pos 0) (positionSum (xs a .positions))) (market-in a l .low)
@@ -137,12 +97,12 @@ module _ (block clearing own groups : List ℤ) (b : BlockRanges block) (t : Tab
 
   long-from-zero : (g : ℕ) → g < 9 → pos 0 ≤ℤ number longs g
   unfolding inGroup
-  long-from-zero g q = rw (long-at g q) (sum-from-zero 16 _ (λ a l. choice-from-zero (eqb (groupOf (rows a)) g) (long-risk-from-zero a l)))
+  long-from-zero g q = rw (long-at rows xs 16 g q) (sum-from-zero 16 _ (λ a l. choice-from-zero (eqb (groupOf (rows a)) g) (long-risk-from-zero a l)))
 
   short-from-zero : (g : ℕ) → g < 9 → pos 0 ≤ℤ number shorts g
   unfolding inGroup shortRisk
   short-from-zero g q =
-      rw (short-at g q) (sum-from-zero 16 _ (λ a l. choice-from-zero (eqb (groupOf (rows a)) g) (choice-from-zero (ltZ (positionSum (xs a .positions)) (pos 0)) (market-in a l .low))))
+      rw (short-at rows xs 16 g q) (sum-from-zero 16 _ (λ a l. choice-from-zero (eqb (groupOf (rows a)) g) (choice-from-zero (ltZ (positionSum (xs a .positions)) (pos 0)) (market-in a l .low))))
 
   module _ (g : ℕ) (l : g < 8) where
     smaller-from-zero : pos 0 ≤ℤ minℤ (number longs (1 + g)) (number shorts (1 + g))
@@ -155,7 +115,7 @@ module _ (block clearing own groups : List ℤ) (b : BlockRanges block) (t : Tab
     group-below-long : discountOf groups longs shorts g ≤ℤ Σ< 16 (λ a. inGroup (1 + g) (rows a) (longRisk (rows a) (xs a .positions)))
     unfolding discountOf
     group-below-long =
-        rw (← long-at (1 + g) (omega arith))
+        rw (← long-at rows xs 16 (1 + g) (omega arith))
         (≤ℤ-trans (discount-below _ _ (t .percent g l) smaller-from-zero) (le! (var (number longs (1 + g)) ⊓ var (number shorts (1 + g))) (var (number longs (1 + g))) (omega arith)))
 
   discount-range : (pos 0 ≤ℤ Σ< 8 (discountOf groups longs shorts)) × (Σ< 8 (discountOf groups longs shorts) ≤ℤ Σ< 16 markets)

@@ -18,7 +18,7 @@ use Rattle.book.proofs.Blocks.{block-length, block-put, block-put-other}
 use Rattle.engine.specs.Refused.{bookGate, tableGate, openRefusals, rollRefusals, moveRefusals, orderRefusals, tradeOf}
 use Rattle.engine.specs.Calls.{Outcome, outcome, openOutcome, rollOutcome, moveOutcome, orderOutcome}
 use Rattle.engine.specs.Report.{reportOf}
-use Rattle.engine.proofs.Gates.{book-passed, table-passed}
+use Rattle.engine.proofs.Gates.{book-passed, table-passed, account-below}
 use Rattle.engine.proofs.Parameters.{index-is}
 use Rattle.book.specs.Roll.{rolled}
 use Rattle.book.proofs.Moved.{moved-length}
@@ -126,8 +126,7 @@ module _ (account : ℤ) where
 
 module _ (clearing own groups : List ℤ) (account : ℤ) where
   table-lets-through : (book : List ℤ) → firstCode (tableGate book clearing own groups account) ≡ 0 → (length book ≡ 4608) × (natAbs account < 16)
-  table-lets-through book e =
-      let p = table-passed book clearing own groups account e in (p .long, let h = index-is account 15 (p .account-right) in omega arith)
+  table-lets-through book e = (table-passed book clearing own groups account e .long, account-below book clearing own groups account e)
 
   module _ (asset amount : ℤ) where
     abbrev pub moving : Call

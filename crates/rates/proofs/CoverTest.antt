@@ -1,24 +1,54 @@
--- The cover test's arithmetic on a row in its ranges: no step overflows, so what code holds is what the definition says; and the width is from
--- 0 to 10^7.
+-- What the cover test says and pays for, and its arithmetic on a row in its ranges: no step overflows, so what code holds is what the definition
+-- says; and the width is from 0 to 10^7.
 -- Assumes nothing.
 use mathlib.Core.Path.{_≡_, ap₂}
+use mathlib.Core.Bool.{true, not}
 use mathlib.Core.List.{List}
 use native.Mathlib.Omega.{arith}
-use lib.IntN.{ℤ, _+ℤ_, _-ℤ_, _*ℤ_}
-use lib.Signed.{leZ}
+use lib.IntN.{ℤ, pos, _+ℤ_, _-ℤ_, _*ℤ_}
+use lib.Signed.{leZ, _≤ℤ_}
 use mir.Syntax.{w64}
 use mir.Val.{SFits}
-use Rattle.whole.specs.Numbers.{maxℤ}
+use Rattle.whole.specs.Numbers.{maxℤ, dividedUp}
 use Rattle.whole.specs.Bounds.{_upto_}
-use Rattle.whole.proofs.Expressions.{Expression, var, lit, _⊕_, _⊖_, _⊛_, _⊔_, is, le!, le?}
+use Rattle.whole.proofs.Expressions.{Expression, var, lit, _⊕_, _⊖_, _⊛_, _⊔_, is, le!, eq!, le?, eq?}
 use Rattle.whole.proofs.Machine.{back, Runs, fits!, need!, runs}
 use Rattle.whole.proofs.Bounds.{upto-within, product-within}
+use Rattle.whole.proofs.Numbers.{*ℤ-mono, *ℤ-monoʳ}
+use Rattle.whole.proofs.Rounding.{up-least}
 use Rattle.whole.proofs.Rules.{ints}
+use Rattle.whole.proofs.Tests.{and-right}
 use Rattle.rates.specs.Units.{theWhole}
-use Rattle.rates.specs.Row.{price, fall, raisedRate, mid, outerLow, outerUp, level}
-use Rattle.rates.specs.InForce.{outerWidth}
+use Rattle.rates.specs.Row.{unlisted, price, fall, raisedRate, mid, outerLow, outerUp, level}
+use Rattle.rates.specs.InForce.{outerWidth, coverTest}
 use Rattle.rates.specs.Ranges.{DateRanges, RowRanges}
 
+-- ---- what it says
+pub cover-says : (row : List ℤ) → coverTest row ≡ true → (raisedRate row fall *ℤ price row) ≤ℤ (theWhole *ℤ (level row 0 -ℤ outerWidth row 0))
+unfolding coverTest
+cover-says row e =
+    let test = and-right (not (unlisted row)) (leZ (raisedRate row fall *ℤ price row) (theWhole *ℤ (level row 0 -ℤ outerWidth row 0))) e in omega ints
+
+-- it pays for the raised fall rate of n units, rounded up, out of what δ units have left, where n is at most δ
+pub cover-pays : (row : List ℤ) → RowRanges row → coverTest row ≡ true → (n δ : ℤ) → n ≤ℤ δ → pos 0 ≤ℤ δ
+    → dividedUp (raisedRate row fall *ℤ n *ℤ price row) 10000 ≤ℤ (δ *ℤ (level row 0 -ℤ outerWidth row 0))
+cover-pays row r e n δ h z =
+    let R = raisedRate row fall in
+    let q = price row in
+    let left = level row 0 -ℤ outerWidth row 0 in
+    let charged = R *ℤ n *ℤ q in
+    let most = R *ℤ δ *ℤ q in
+    let turned = R *ℤ q *ℤ δ in
+    up-least 10000 (omega arith) charged (δ *ℤ left)
+    (le! (var charged) (lit 10000 ⊛ (var δ ⊛ var left))
+    (omega (
+      arith,
+      le? (var charged) (var most) (*ℤ-monoʳ q (R *ℤ n) (R *ℤ δ) (r .price-upto .low) (*ℤ-mono R n δ (r .side fall (omega arith) .raised-upto .low) h)),
+      eq? (var most) (var turned) (eq! (var R ⊛ var δ ⊛ var q) (var R ⊛ var q ⊛ var δ) (omega arith)),
+      le? (var turned) (lit 10000 ⊛ var left ⊛ var δ) (*ℤ-monoʳ δ (R *ℤ q) (theWhole *ℤ left) z (cover-says row e)),
+    )))
+
+-- ---- as code works it out
 module _ (row : List ℤ) (r : RowRanges row) where
   today : DateRanges row 0
   today = r .date 0 (omega arith)

@@ -1,26 +1,26 @@
 -- What a caller learns from code 0 of the table check: the lengths; of each asset, that its row in force is in its ranges, has the kind of its clearing
--- row, and is what the lookup hands back; of each group, that its percent is right.
+-- row, is what the lookup hands back, and is listed if it passes the cover test; of each group, that its percent is right.
 -- Assumes nothing.
-use mathlib.Core.Path.{_≡_, refl, ap, _∙_}
-use mathlib.Core.Bool.{Bool, true, false, cond}
+use mathlib.Core.Path.{_≡_, refl, sym, ap, _∙_}
+use mathlib.Core.Bool.{Bool, true, false, not, cond}
 use mathlib.Core.List.{List, _∷_, _++_, map}
 use Prim.Native.Nat.{ℕ, _<_}
 use native.Mathlib.Omega.{arith}
 use lib.IntN.{ℤ, pos}
 use lib.ListN.{length, replicate}
 use lib.Dec.{eqb}
-use borrow.Author.Tests.{eqb-true}
+use borrow.Author.Tests.{eqb-true, lt-ltb}
 use Rattle.whole.specs.Parts.{number}
-use Rattle.whole.specs.Bounds.{between, _upto_}
+use Rattle.whole.specs.Bounds.{between, isZero, _upto_}
 use Rattle.whole.specs.Marks.{allTrue, pieces}
 use Rattle.whole.proofs.Bounds.{equal-says, upto-by}
 use Rattle.whole.proofs.Tests.{and-left, and-right, true-not-false}
 use Rattle.whole.proofs.Marks.{all-left, all-right, all-piece, all-numbers}
 use Rattle.rates.specs.Units.{assets, rowLength, tableLength, groupCount}
-use Rattle.rates.specs.Row.{kind}
+use Rattle.rates.specs.Row.{kind, unlisted}
 use Rattle.rates.specs.Rules.{rowMarks}
-use Rattle.rates.specs.Tables.{rowOf, absent, ownKindRight, ownRowMarks, percentRight, clearingMarks, ownMarks, tableMarks, lengthsRight, soundTables, checkCode}
-use Rattle.rates.specs.InForce.{inForce, lookup, soundRow}
+use Rattle.rates.specs.Tables.{rowOf, listed, absent, ownKindRight, ownRowMarks, percentRight, clearingMarks, ownMarks, tableMarks, lengthsRight, soundTables, checkCode}
+use Rattle.rates.specs.InForce.{inForce, lookup, coverTest, soundRow}
 use Rattle.rates.specs.Ranges.{RowRanges, TableRanges}
 use Rattle.rates.proofs.Counts.{row-long}
 use Rattle.rates.proofs.Answer.{code-0-says}
@@ -116,3 +116,9 @@ module _ (clearing own groups : List ℤ) where
 
     pub looked-up : (a : ℕ) → a < assets → lookup clearing own a ≡ inForce clearing own a
     looked-up a h = in-force clearing own a (ranges .clearing-long) (ranges .own-long) h
+
+    -- an asset whose row in force passes the cover test is listed
+    pub cover-listed : (a : ℕ) → a < assets → coverTest (inForce clearing own a) ≡ true → listed clearing a ≡ true
+    unfolding coverTest listed
+    cover-listed a h e =
+        rw (lt-ltb a assets h) (ap (λ (k : ℤ). not (isZero k)) (sym (same-kind a h)) ∙ and-left (not (unlisted (inForce clearing own a))) _ e)

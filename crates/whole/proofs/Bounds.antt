@@ -1,6 +1,7 @@
 -- Laws of the bounds, and what the test `between` says. Assumes nothing.
 use mathlib.Core.Path.{_≡_, refl, sym, ap, subst}
 use mathlib.Core.Bool.{Bool, true, false, _&&_}
+use mathlib.Core.Logic.{_≢_}
 use Prim.Native.Nat.{ℕ, _*_, _≤_, _<_, _^_}
 use native.Mathlib.Omega.{arith}
 use lib.Dec.{T}
@@ -52,6 +53,13 @@ between-yes {low} {x} {high} h k = yes (leZ low x) (leZ x high) (h .le) (k .le)
     yes true false s t = absurd t
     yes false b s t = absurd s
 
+pub le-yes : {x y : ℤ} → x ≤ℤ y → leZ x y ≡ true
+le-yes {x} {y} h = yes (leZ x y) (h .le)
+  where
+    yes : (a : Bool) → T a → a ≡ true
+    yes true t = refl
+    yes false t = absurd t
+
 -- two tests that ask the same
 pub between-same : (low x high low′ x′ high′ : ℤ) → (low ≤ℤ x → low′ ≤ℤ x′) → (low′ ≤ℤ x′ → low ≤ℤ x) → (x ≤ℤ high → x′ ≤ℤ high′) → (x′ ≤ℤ high′ → x ≤ℤ high)
     → between low x high ≡ between low′ x′ high′
@@ -71,6 +79,13 @@ between-same low x high low′ x′ high′ a b c d =
 
 pub equal-says : {x y : ℤ} → equal x y ≡ true → x ≡ y
 equal-says e = let a = amid e in ≤ℤ-antisym (a .to) (a .from)
+
+pub not-equal : {x y : ℤ} → x ≢ y → equal x y ≡ false
+not-equal {x} {y} h = no (equal x y) refl
+  where
+    no : (a : Bool) → equal x y ≡ a → a ≡ false
+    no true e = absurd (h (equal-says e))
+    no false e = refl
 
 pub upto-by : {x : ℤ} {k : ℕ} → k < 2 ^ 63 → between (pos 0) x (pos k) ≡ true → x upto k
 upto-by {x} {k} l e = let a = amid e in record { low = a .from; high = a .to; fits = omega ints }

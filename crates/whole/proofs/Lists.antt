@@ -30,6 +30,11 @@ module _ {A : Type 0} (a n : ℕ) (xs : List A) (x : A) where
       ap (λ (j : ℕ). take n (drop a (set xs j x))) e
       ∙ rw (drop-set-add a xs (k - a) x, take-set-le n (drop a xs) (k - a) x (omega arith)) refl)
 
+-- a part that is put does not see what was replaced where it goes
+pub put-set : {A : Type 0} (a n : ℕ) (xs ys : List A) (i : ℕ) (x : A) → i < n → put a n (set xs (a + i) x) ys ≡ put a n xs ys
+unfolding put
+put-set a n xs ys i x h = rw (take-set-le a xs (a + i) x (omega arith), drop-set-add a xs i x, drop-set-lt n (drop a xs) i x h) refl
+
 -- ---- what `&mut xs[a..a + n]` hands back
 pub back-put : {A : Type 0} (a n : ℕ) (xs ys : List A) → take a xs ++ (ys ++ drop (a + n - a) (drop a xs)) ≡ put a n xs ys
 unfolding put

@@ -61,6 +61,9 @@ first-zero [] b e = refl
 first-zero (true gives k ∷ a) b e = e
 first-zero (false gives k ∷ a) b e = first-zero a b e
 
+pub second-zero : (a b : List Refusal) → T (coded a) → firstCode (a ++ b) ≡ 0 → firstCode b ≡ 0
+second-zero a b c e = sym (goes-on a b c (first-zero a b e)) ∙ e
+
 -- as a call answers them: the first list's code where it is not 0, else the second's
 module _ {n : ℕ} (a b : List Refusal) where
   pub stops : n ≡ firstCode a → (n ≡ 0 → ⊥) → n ≡ firstCode (a ++ b)
