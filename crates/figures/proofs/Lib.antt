@@ -7,4 +7,5 @@ pub mod Sides
 pub mod Discount
 pub mod Steps
 pub mod Sizes
+pub mod Unheld
 pub mod Below
