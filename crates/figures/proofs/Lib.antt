@@ -9,6 +9,7 @@ pub mod Discount
 pub mod Groups
 pub mod Steps
 pub mod Sizes
+pub mod Unheld
 pub mod Below
 pub mod Better
 pub mod MarketSides

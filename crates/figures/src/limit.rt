@@ -89,7 +89,7 @@ fn with_asset(totals: Totals, row: &[i64], x: Asset) -> Totals
     }
 }
 
-// The sums with asset a of a block.
+// The sums with asset a of a block. An asset of which nothing is held adds nothing and is passed by, so an account costs by what it holds.
 fn with_asset_of<'a>(
     totals: Totals,
     block: &[i64],
@@ -101,9 +101,12 @@ fn with_asset_of<'a>(
     requires { ⌜ TotalRanges 15 totals × BlockRanges (now block) × TableRanges (now clearing) (now own) (now groups) × (a < 16) ⌝ }
     ensures { λ r. ⌜ (r ≡ withAsset totals (inForce (now (clearing .entry)) (now (own .entry)) a) (assetIn (now (block .entry)) (now (clearing .entry)) (now (own .entry)) a)) × ((n : ℕ) → TotalRanges n totals → n < 16 → TotalRanges (suc n) r) ⌝ }
 {
+    let at = 16 + 17 * a;
+    if book::is_empty(&block[at..at + 17]) {
+        return totals;
+    }
     let row = rates::row_in_force(clearing, own, a);
     let account = block[0] as usize;
-    let at = 16 + 17 * a;
     let x = record::asset_of(account, row, &block[at..at + 17]);
     with_asset(totals, row, x)
 }

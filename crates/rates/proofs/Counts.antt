@@ -42,7 +42,7 @@ module _ (row : List ℤ) where
   dates-count = pieces-length (dateMarks row) 5 0 dates (λ d h. date-count d)
 
   module _ (long : length row ≡ rowLength) where
-    pub zeros-count : length (map isZero row) ≡ rowLength
+    zeros-count : length (map isZero row) ≡ rowLength
     zeros-count = length-map row isZero ∙ long
 
     pub last-count : length (map isZero (drop 56 row)) ≡ 8

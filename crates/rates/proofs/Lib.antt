@@ -1,7 +1,6 @@
 -- Laws of a row's rules, of the tables, and of what the table check gives; and computed examples.
 pub mod Comparisons
 pub mod Counts
-pub mod OwnRow
 pub mod Answer
 pub mod DateRanges
 pub mod Ranges

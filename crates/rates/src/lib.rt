@@ -54,7 +54,7 @@ pub fn row_in_force<'a>(clearing: &'a [i64], own: &'a [i64], asset: usize) -> &'
         return &clearing[0..0];
     }
     let at = row::LENGTH * asset;
-    if row::first_nonzero(&own[at..at + row::LENGTH]) < row::LENGTH {
+    if !row::is_absent(&own[at..at + row::LENGTH]) {
         return &own[at..at + row::LENGTH];
     }
     &clearing[at..at + row::LENGTH]

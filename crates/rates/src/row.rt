@@ -4,9 +4,10 @@ ghost use Prim.Native.Nat.{_<_, _≤_};
 ghost use lib.ListN.{length};
 ghost use Rattle.whole.specs.Parts.{number};
 ghost use Rattle.whole.specs.Bounds.{between, isZero};
-ghost use Rattle.whole.specs.Marks.{firstFalse};
+ghost use Rattle.whole.specs.Marks.{firstFalse, allTrue};
 ghost use Rattle.rates.specs.Units.{theWhole};
 ghost use Rattle.rates.specs.Rules.{equalForCommodity, termMarks, rateMarks, limitMarks, listedMarks, rowMarks};
+ghost use Rattle.rates.specs.Tables.{absent};
 use crate::dates;
 
 // The rules of one row (document 01, "Row"): the first broken number of each part, counted from the part's first number, or the part's
@@ -21,10 +22,38 @@ pub(crate) const LENGTH: usize = 64;
 // Where the last numbers of a row stand, which are zero.
 const LAST_AT: usize = 56;
 
-// The first number that is not zero, or the count of the numbers.
-pub(crate) fn first_nonzero(numbers: &[i64]) -> usize
+// Whether every number is zero. It does not stop at the first that is not, so that the compiler may look at several together.
+fn all_zero(numbers: &[i64]) -> bool
+    ensures { λ r. ⌜ r ≡ allTrue (map isZero (now (numbers .entry))) ⌝ }
+{
+    let mut zero = true;
+    let mut k = 0;
+    while k < numbers.len() {
+        zero = zero & whole::number_between(numbers, k, 0, 0);
+        k += 1;
+    }
+    zero
+}
+
+// Whether a row is not there: all its numbers are zero. A sound row that is there has a kind, so its first number is asked before the others.
+pub(crate) fn is_absent(row: &[i64]) -> bool
+    requires { ⌜ length (now row) ≡ 64 ⌝ }
+    ensures { λ r. ⌜ r ≡ absent (now (row .entry)) ⌝ }
+{
+    if !whole::number_between(row, 0, 0, 0) {
+        return false;
+    }
+    all_zero(row)
+}
+
+// The first number that is not zero, or the count of the numbers. In a sound row there is none: that is asked first, and the place is looked for only
+// where there is one.
+fn first_nonzero(numbers: &[i64]) -> usize
     ensures { λ r. ⌜ r ≡ firstFalse (map isZero (now (numbers .entry))) ⌝ }
 {
+    if all_zero(numbers) {
+        return numbers.len();
+    }
     let mut k = 0;
     while k < numbers.len() {
         if !whole::number_between(numbers, k, 0, 0) {

@@ -37,7 +37,7 @@ fn broken_own_row(own: &[i64], clearing: &[i64]) -> usize
     requires { ⌜ (length (now own) ≡ 64) × (length (now clearing) ≡ 64) ⌝ }
     ensures { λ r. ⌜ r ≡ firstFalse (ownRowMarks (now (own .entry)) (now (clearing .entry))) ⌝ }
 {
-    if row::LENGTH <= row::first_nonzero(own) {
+    if row::is_absent(own) {
         return row::LENGTH;
     }
     if !own_kind_right(own, clearing) {

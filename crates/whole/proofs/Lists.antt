@@ -108,3 +108,9 @@ module _ {A : Type 0} (f : A → Bool) where
     pub all-end : length s ≤ i → all (drop i s) ≡ true
     unfolding allTrue
     all-end h = rw (drop-of-length-le s h) refl
+
+    -- and where the loop does not stop: what was seen so far, with number i
+    pub all-seen : (seen mark : Bool) → i < length s → mark ≡ f (getD s i z) → seen && all (drop i s) ≡ (seen && mark) && all (drop (i + 1) s)
+    all-seen false mark h e = refl
+    all-seen true true h e = all-next h (sym e)
+    all-seen true false h e = all-out h (sym e)

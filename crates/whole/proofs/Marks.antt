@@ -119,6 +119,12 @@ all-of [] h = refl
 all-of (true ∷ ms) h = all-of ms (omega arith)
 all-of (false ∷ ms) h = absurd (omega arith)
 
+pub none-false : (ms : List Bool) → allTrue ms ≡ true → firstFalse ms ≡ length ms
+unfolding firstFalse allTrue
+none-false [] e = refl
+none-false (true ∷ ms) e = ap suc (none-false ms e)
+none-false (false ∷ ms) e = true-not-false e
+
 pub not-all-of : (ms : List Bool) → firstFalse ms < length ms → allTrue ms ≡ false
 unfolding firstFalse allTrue
 not-all-of [] h = absurd (omega arith)

@@ -58,14 +58,14 @@ sum-one (suc n) a f g l h =
         eq! (var (Σ< n g) ⊕ var (g n) ⊕ var (f a)) (var (Σ< n f) ⊕ var (f n) ⊕ var (g a))
         (omega (ints, eq? (var (Σ< n g) ⊕ var (f a)) (var (Σ< n f) ⊕ var (g a)) i))
 
-sum-zero : (n : ℕ) → Σ< n (λ _. pos 0) ≡ pos 0
+pub sum-zero : (n : ℕ) (f : ℕ → ℤ) → ((j : ℕ) → j < n → f j ≡ pos 0) → Σ< n f ≡ pos 0
 unfolding Σ<
-sum-zero zero = refl
-sum-zero (suc n) = rw (sum-zero n) refl
+sum-zero zero f h = refl
+sum-zero (suc n) f h = ap₂ _+ℤ_ (sum-zero n f (λ j l. h j (omega arith))) (h n (omega arith))
 
 pub sum-swap : (n m : ℕ) (f : ℕ → ℕ → ℤ) → Σ< n (λ i. Σ< m (f i)) ≡ Σ< m (λ j. Σ< n (λ i. f i j))
 unfolding Σ<
-sum-swap zero m f = sym (sum-zero m)
+sum-swap zero m f = sym (sum-zero m _ (λ j l. refl))
 sum-swap (suc n) m f = ap (λ (z : ℤ). z +ℤ Σ< m (f n)) (sum-swap n m f) ∙ sym (sum-add m (λ j. Σ< n (λ i. f i j)) (f n))
 
 pub sum-first : (n A B : ℕ) (f : ℕ → ℤ) → natAbs (f 0) ≤ A + B → ((j : ℕ) → j < n → natAbs (f (suc j)) ≤ B) → natAbs (Σ< (suc n) f) ≤ A + suc n * B
