@@ -1,12 +1,15 @@
-# Makes docs/BENCHMARKS.md of what bench-calls printed with overflow checks on and off, and of the session line. The environment has
+# Makes docs/BENCHMARKS.md of what bench-calls printed with overflow checks on and off, and of the session programs. The environment has
 # the rest. Lines: speed NAME LISTED ENGINE SECOND RATIO LEAST GREATEST; cost NAME LISTED then ratio, least, greatest of both sides.
 BEGIN { FS = "\t"; most = 1.2 }
 
 FNR == 1 { file++ }
 
-$1 == "session" { session = $2 }
-
-$1 == "speed" && $2 == "session line" { line_engine = $4; line_second = $5; line_ratio = spread($6, $7, $8) }
+$1 == "speed" && $2 == "session line" {
+    line_engine = $4
+    line_second = $5
+    line_ratio = spread($6, $7, $8)
+    if ($6 < 1) short[1] = short[1] "; session line (" $6 ")"
+}
 
 $1 == "speed" && $2 != "session line" {
     if (file == 1 && !($2 in known)) { known[$2]; names[++count] = $2 }
@@ -54,8 +57,7 @@ function speeds(    n, key) {
         key = names[n] SUBSEP 16
         print "| " names[n] " | " grouped(engine[key]) " | " grouped(second[key]) " | " ratio[key, 1] " | " ratio[key, 2] " |"
     }
-    if (line_ratio != "") print "| session line | " grouped(line_engine) " | " grouped(line_second) " | " line_ratio " | |"
-    else print "| session line | " session " | | | |"
+    print "| session line | " grouped(line_engine) " | " grouped(line_second) " | " line_ratio " | |"
 }
 
 function growth(    n, k, key, sizes) {
@@ -91,7 +93,7 @@ function method() {
     print "- 15 rounds. In each, every call of both programs runs for at least 20 ms, and who goes first changes from round to round."
     print "- The input (bench/src/input.rs): 16 open accounts of kinds 1 to 3, taken in turn; each listed asset held with collateral and with claims and obligations on every date. Rows of kinds 1 to 3, a third of them with an own row, special delivery, not recorded and partial ones, four spread groups and none. The first 1 and 4 assets have no special delivery among them, and the first has no own row."
     print "- An admitted order is taken back by putting its two numbers of the book back, for both programs alike and inside the time. A refused one leaves the book as it is."
-    print "- Session lines: `./run` and `second-session` on one generated file of " grouped(ENVIRON["LINES"]) " lines, output thrown away; starting the programs is counted."
+    print "- Session lines: the session program and `second-session` on one generated file of " grouped(ENVIRON["LINES"]) " lines, output thrown away; starting the programs is counted."
 }
 
 END { origin(); speeds(); growth(); prices(); verdict(); method() }

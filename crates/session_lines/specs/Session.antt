@@ -72,7 +72,7 @@ orderLeft book p o =
 -- each frame through its call; a line of no form is code 12
 unfoldable pub answered : State → Frame → Answered
 answered s (Parameter place number) =
-    let set = parameterSet (s .parameters) place number in coded (record { book = s .book; parameters = set .parameters }) (set .code)
+    let p = parameterSet (s .parameters) place number in coded (record { book = s .book; parameters = p .parameters }) (p .code)
 answered s (Open account kind) = called s (openOutcome (s .book) (pos account) (pos kind))
 answered s (Move m) = called s (moveLeft (s .book) (s .parameters) m)
 answered s (Order o) = called s (orderLeft (s .book) (s .parameters) o)
