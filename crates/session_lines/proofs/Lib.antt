@@ -5,3 +5,4 @@ pub mod Steps
 pub mod Took
 pub mod Whole
 pub mod Pieces
+pub mod Examples
