@@ -12,7 +12,7 @@ use Rattle.whole.specs.Refusals.{firstCode, leaves}
 use Rattle.rates.specs.Rules.{termMarks, rateMarks, limitMarks, dateMarks, listedMarks, rowMarks}
 use Rattle.rates.specs.Tables.{listed, absent, ownKindRight, ownRowMarks, clearingMarks, ownMarks, tableMarks, lengthsRight, soundTables}
 use Rattle.rates.specs.InForce.{inForce}
-use Rattle.book.specs.Block.{blockOf, putBlock, moveAt}
+use Rattle.book.specs.Block.{moveAt}
 use Rattle.book.specs.Changes.{added, opened, moved, overdrawn}
 use Rattle.book.specs.Rules.{allZero, headMarks, holdingRight, holdingsRight, inBounds, goodBlock, holdsListed}
 use Rattle.figures.specs.Collateral.{poolShareInForce, shareInForce, regimeOf, counted}

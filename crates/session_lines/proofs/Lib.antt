@@ -4,5 +4,6 @@ pub mod Held
 pub mod Steps
 pub mod Took
 pub mod Whole
+pub mod Follows
 pub mod Pieces
 pub mod Examples

@@ -15,11 +15,7 @@ use Rattle.whole.proofs.Parts.{put-length}
 use Rattle.frames.specs.Answer.{Written, written}
 use Rattle.frames.specs.declared.frame.Frame.{Frame}
 use Rattle.session_lines.specs.Session.{State, answered}
-use Rattle.session_lines.specs.Stream.{Begun, begun, held, grown, frameHeld, Stream, closed, closing, fed}
-
--- the stream that memory holds
-abbrev pub streamIn : List ℤ → List ℤ → List ℕ → ℕ → Stream
-streamIn book parameters line count = record { line = held line count; state = record { book = book; parameters = parameters } }
+use Rattle.session_lines.specs.Stream.{Begun, begun, held, grown, frameHeld, Stream, streamIn, closed, closing, fed}
 
 module _ (s : Stream) (out : Written) (i : ℕ) (piece : List ℕ) (inside : i < length piece) where
   abbrev b : ℕ

@@ -6,16 +6,12 @@ use lib.ListN.{take}
 use Prim.Native.Nat.{ℕ}
 use Rattle.frames.specs.Answer.{Written}
 use Rattle.session_lines.specs.Session.{start}
-use Rattle.session_lines.specs.Stream.{begun, Stream, fed}
+use Rattle.session_lines.specs.Stream.{begun, Stream, empty, fed}
 
 -- what is lent to one call
 pub record Call : Type 0 where
   pub piece : List ℕ
   pub out : List ℕ
-
--- an empty buffer
-abbrev pub empty : List ℕ → Written
-empty out = record { bytes = out; at = 0 }
 
 -- what stands in a buffer
 abbrev pub text : Written → List ℕ

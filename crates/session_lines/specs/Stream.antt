@@ -5,6 +5,7 @@ use mathlib.Core.Bool.{Bool, false, cond}
 use mathlib.Core.List.{List, [], _∷_, _++_}
 use Prim.Native.Nat.{ℕ, suc, _+_, _≤_, _<_}
 use lib.Dec.{eqb, leb, ltb}
+use lib.IntN.{ℤ}
 use lib.ListN.{length, take}
 use Rattle.frames.specs.Frame.{lineFrame}
 use Rattle.frames.specs.Answer.{Written, written}
@@ -33,6 +34,14 @@ frameHeld tooLong = Malformed
 pub record Stream : Type 0 where
   pub line : Begun
   pub state : State
+
+-- the stream that memory holds
+abbrev pub streamIn : List ℤ → List ℤ → List ℕ → ℕ → Stream
+streamIn book parameters line count = record { line = held line count; state = record { book = book; parameters = parameters } }
+
+-- a buffer with nothing in it
+abbrev pub empty : List ℕ → Written
+empty out = record { bytes = out; at = 0 }
 
 -- a stream with its line answered
 unfoldable pub closed : Stream → Stream

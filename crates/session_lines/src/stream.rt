@@ -2,7 +2,7 @@ ghost use mathlib.Core.Path.{_≡_};
 ghost use Prim.Native.Nat.{_≤_};
 ghost use lib.ListN.{length};
 ghost use Rattle.frames.specs.Answer.{Written};
-ghost use Rattle.session_lines.specs.Stream.{held, grown, frameHeld, Fed, fed, Took, ended};
+ghost use Rattle.session_lines.specs.Stream.{held, grown, frameHeld, streamIn, empty, Fed, fed, Took, ended};
 use crate::answer;
 use frames::Frame;
 
@@ -56,7 +56,7 @@ pub fn feed(
     piece: &[u8],
     out: &mut [u8],
 ) -> Spot
-    ensures fed { λ r. ⌜ _≡_ {A = Fed} (record { used = r .used; stream = record { line = held (now (line .exit)) (r .count); state = record { book = now (book .exit); parameters = now (parameters .exit) } }; out = record { bytes = now (out .exit); at = r .at } }) (fed (record { line = held (now (line .entry)) count; state = record { book = now (book .entry); parameters = now (parameters .entry) } }) (record { bytes = now (out .entry); at = 0 }) 0 (now (piece .entry))) ⌝ }
+    ensures fed { λ r. ⌜ _≡_ {A = Fed} (record { used = r .used; stream = streamIn (now (book .exit)) (now (parameters .exit)) (now (line .exit)) (r .count); out = record { bytes = now (out .exit); at = r .at } }) (fed (streamIn (now (book .entry)) (now (parameters .entry)) (now (line .entry)) count) (empty (now (out .entry))) 0 (now (piece .entry))) ⌝ }
     ensures took { λ r. ⌜ Took (r .used) (r .at) (now (piece .entry)) (now (out .exit)) ⌝ }
 {
     let mut held = count;
@@ -94,7 +94,7 @@ pub fn end(
     count: usize,
     out: &mut [u8],
 ) -> usize
-    ensures said { λ r. ⌜ _≡_ {A = Written} (record { bytes = now (out .exit); at = r }) (ended (record { line = held (now (line .entry)) count; state = record { book = now (book .entry); parameters = now (parameters .entry) } }) (record { bytes = now (out .entry); at = 0 })) ⌝ }
+    ensures said { λ r. ⌜ _≡_ {A = Written} (record { bytes = now (out .exit); at = r }) (ended (streamIn (now (book .entry)) (now (parameters .entry)) (now (line .entry)) count) (empty (now (out .entry)))) ⌝ }
     ensures inside { λ r. ⌜ r ≤ length (now (out .exit)) ⌝ }
 {
     if count == 0 {

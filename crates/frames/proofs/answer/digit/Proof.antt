@@ -5,19 +5,13 @@ use Rattle.frames.specs.Hex.{digitOf}
 use Rattle.frames.proofs.answer.digit.Statement.{statement}
 use Rattle.frames.proofs.answer.digit.Tie as tie
 
-add-result : tie.Need-add-result
-add-result c = search needs
-
 returns : tie.Need-returns
 unfolding digitOf
 returns c = simp (lt-ltb _ _ (c .if1 .taken))
-
-add-result-2 : tie.Need-add-result-2
-add-result-2 c = search needs
 
 returns-2 : tie.Need-returns-2
 unfolding digitOf
 returns-2 c = simp (le-ltb _ _ (c .if1 .left))
 
 pub digit-spec : {M : Type 1} → statement M
-digit-spec = tie.close (tie.spec add-result add-result-2 returns returns-2)
+digit-spec = tie.close (tie.spec (λ c. search needs) (λ c. search needs) returns returns-2)

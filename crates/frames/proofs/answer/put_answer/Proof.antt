@@ -10,20 +10,11 @@ use Rattle.frames.proofs.answer.put_answer.Tie as tie
 returns : tie.Need-returns
 returns c = no-room _ _ _ (omega (arith, answer-length (c .before .before .args .code) (now (c .before .before .args .figures))))
 
-sub-room : tie.Need-sub-room
-sub-room c = search needs
-
 returns-2 : tie.Need-returns-2
 returns-2 c = no-room _ _ _ (omega (arith, answer-length (c .before .before .before .args .code) (now (c .before .before .before .args .figures))))
 
 returns-3 : tie.Need-returns-3
 returns-3 c = no-room _ _ _ (omega (arith, answer-length (c .before .before .before .before .args .code) (now (c .before .before .before .before .args .figures))))
-
-put-line-requires : tie.Need-put-line-requires
-put-line-requires c κs = search needs
-
-same-length : tie.Need-same-length
-same-length c = search needs
 
 returns-4 : tie.Need-returns-4
 returns-4 c = laid-written (omega arith) (c .before .before .put-line .ensures)
@@ -31,4 +22,4 @@ returns-4 c = laid-written (omega arith) (c .before .before .put-line .ensures)
 pub put-answer-spec : {M : Type 1} → statement M
 put-answer-spec =
     tie.close
-    (tie.spec returns sub-room returns-2 returns-3 put-line-requires same-length returns-4)
+    (tie.spec returns (λ c. search needs) returns-2 returns-3 (λ c κs. search needs) (λ c. search needs) returns-4)

@@ -29,21 +29,6 @@ loop-holds : tie.Need-loop-holds Inv-loop μ-loop
 unfolding hexOf figureBytes
 loop-holds c = (omega arith, refl, laid-none _ _ (omega arith))
 
-mul-put-n8 : tie.Need-mul-put-n8 Inv-loop μ-loop
-mul-put-n8 c = search needs
-
-shared-slice-copy-out-put-n8 : tie.Need-shared-slice-copy-out-put-n8 Inv-loop μ-loop
-shared-slice-copy-out-put-n8 c = search needs
-
-put-n8-requires : tie.Need-put-n8-requires Inv-loop μ-loop
-put-n8-requires c κs = search needs
-
-add-k : tie.Need-add-k Inv-loop μ-loop
-add-k c = search needs
-
-loop-less : tie.Need-loop-less Inv-loop μ-loop
-loop-less c = search needs
-
 loop-again : tie.Need-loop-again Inv-loop μ-loop
 loop-again c =
     let j = c .before .before .before .before .before .before .loop in
@@ -52,9 +37,6 @@ loop-again c =
       omega arith,
       laid-same (figures-next _ (j .k) h) (laid-size (omega arith) (laid-then (omega arith) (j .inv .2) (laid-same (ap (λ (z : ℤ). hexOf (n8 z)) (toZ-ofZ {w = w64} (record { sfits = c .before .before .before .put-n8-arg2 .given }))) (c .before .before .put-n8 .ensures)))),
     )
-
-same-length : tie.Need-same-length Inv-loop μ-loop
-same-length c = search needs
 
 returns : tie.Need-returns Inv-loop μ-loop
 returns c =
@@ -70,11 +52,11 @@ put-figures-spec =
     Inv-loop
     μ-loop
     loop-holds
-    mul-put-n8
-    shared-slice-copy-out-put-n8
-    put-n8-requires
-    add-k
-    loop-less
+    (λ c. search needs)
+    (λ c. search needs)
+    (λ c κs. search needs)
+    (λ c. search needs)
+    (λ c. search needs)
     loop-again
-    same-length
+    (λ c. search needs)
     returns)

@@ -7,15 +7,6 @@ use borrow.Author.Needs.{needs}
 use Rattle.frames.proofs.answer.put_four.Statement.{statement}
 use Rattle.frames.proofs.answer.put_four.Tie as tie
 
-put-two-requires : tie.Need-put-two-requires
-put-two-requires c κs = search needs
-
-put-two-requires-2 : tie.Need-put-two-requires-2
-put-two-requires-2 c κs = search needs
-
-same-length : tie.Need-same-length
-same-length c = search needs
-
 returns : tie.Need-returns
 unfolding hexOf twoBytes fourBytes
 returns c =
@@ -23,4 +14,4 @@ returns c =
     laid-then (omega arith) p (c .before .before .put-two2 .ensures)
 
 pub put-four-spec : {M : Type 1} → statement M
-put-four-spec = tie.close (tie.spec put-two-requires put-two-requires-2 same-length returns)
+put-four-spec = tie.close (tie.spec (λ c κs. search needs) (λ c κs. search needs) (λ c. search needs) returns)

@@ -12,18 +12,6 @@ use borrow.Author.Needs.{needs}
 use Rattle.frames.proofs.answer.put_n8.Statement.{statement}
 use Rattle.frames.proofs.answer.put_n8.Tie as tie
 
-bits-requires : tie.Need-bits-requires
-bits-requires c κs = search needs
-
-put-four-requires : tie.Need-put-four-requires
-put-four-requires c κs = search needs
-
-put-four-requires-2 : tie.Need-put-four-requires-2
-put-four-requires-2 c κs = search needs
-
-same-length : tie.Need-same-length
-same-length c = search needs
-
 returns : tie.Need-returns
 unfolding hexOf twoBytes fourBytes eightBytes n8
 returns c =
@@ -34,4 +22,4 @@ returns c =
 
 pub put-n8-spec : {M : Type 1} → statement M
 put-n8-spec =
-    tie.close (tie.spec bits-requires put-four-requires put-four-requires-2 same-length returns)
+    tie.close (tie.spec (λ c κs. search needs) (λ c κs. search needs) (λ c κs. search needs) (λ c. search needs) returns)

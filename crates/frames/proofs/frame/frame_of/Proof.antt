@@ -9,26 +9,11 @@ use borrow.Author.Needs.{needs}
 use Rattle.frames.proofs.frame.frame_of.Statement.{statement}
 use Rattle.frames.proofs.frame.frame_of.Tie as tie
 
-mul-if1 : tie.Need-mul-if1
-mul-if1 c = search needs
-
 returns : tie.Need-returns
 returns c = sym (long-line _ (omega arith))
 
-slice-aggregate-unhex : tie.Need-slice-aggregate-unhex
-slice-aggregate-unhex c = search needs
-
-unhex-requires : tie.Need-unhex-requires
-unhex-requires c κs = search needs
-
-array-share-prefix-bytes : tie.Need-array-share-prefix-bytes
-array-share-prefix-bytes c = search needs
-
 slice-aggregate-read-frame : tie.Need-slice-aggregate-read-frame
 slice-aggregate-read-frame c = sym (length-take-le _ _ (omega arith))
-
-read-frame-requires : tie.Need-read-frame-requires
-read-frame-requires c κs = search needs
 
 returns-2 : tie.Need-returns-2
 unfolding lineFrame
@@ -45,12 +30,12 @@ pub frame-of-spec : {M : Type 1} → statement M
 frame-of-spec =
     tie.close
     (tie.spec
-    mul-if1
+    (λ c. search needs)
     returns
-    slice-aggregate-unhex
-    unhex-requires
-    array-share-prefix-bytes
+    (λ c. search needs)
+    (λ c κs. search needs)
+    (λ c. search needs)
     slice-aggregate-read-frame
-    read-frame-requires
+    (λ c κs. search needs)
     returns-2
     returns-3)

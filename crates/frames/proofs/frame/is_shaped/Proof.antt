@@ -10,12 +10,9 @@ returns : tie.Need-returns
 unfolding shaped
 returns c = rw (ne-eqb _ _ (c .if1 .taken)) refl
 
-shared-slice-read-result : tie.Need-shared-slice-read-result
-shared-slice-read-result c = search needs
-
 returns-2 : tie.Need-returns-2
 unfolding shaped
 returns-2 c = rw (eq-eqb _ _ (c .before .if1 .left)) refl
 
 pub is-shaped-spec : {M : Type 1} → statement M
-is-shaped-spec = tie.close (tie.spec returns shared-slice-read-result returns-2)
+is-shaped-spec = tie.close (tie.spec returns (λ c. search needs) returns-2)

@@ -6,19 +6,10 @@ use borrow.Author.Needs.{needs}
 use Rattle.frames.proofs.frame.move_numbers.Statement.{statement}
 use Rattle.frames.proofs.frame.move_numbers.Tie as tie
 
-shared-slice-read-t3 : tie.Need-shared-slice-read-t3
-shared-slice-read-t3 c = search needs
-
-shared-slice-read-t5 : tie.Need-shared-slice-read-t5
-shared-slice-read-t5 c = search needs
-
-n8-at-requires : tie.Need-n8-at-requires
-n8-at-requires c κs = search needs
-
 returns : tie.Need-returns
 unfolding moveNumbers
 returns c = rw (toZ-ofZ (c .n8-at .ensures .1), c .n8-at .ensures .0) refl
 
 pub move-numbers-spec : {M : Type 1} → statement M
 move-numbers-spec =
-    tie.close (tie.spec shared-slice-read-t3 shared-slice-read-t5 n8-at-requires returns)
+    tie.close (tie.spec (λ c. search needs) (λ c. search needs) (λ c κs. search needs) returns)

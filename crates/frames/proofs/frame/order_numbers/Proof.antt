@@ -6,24 +6,6 @@ use borrow.Author.Needs.{needs}
 use Rattle.frames.proofs.frame.order_numbers.Statement.{statement}
 use Rattle.frames.proofs.frame.order_numbers.Tie as tie
 
-shared-slice-read-t3 : tie.Need-shared-slice-read-t3
-shared-slice-read-t3 c = search needs
-
-shared-slice-read-t5 : tie.Need-shared-slice-read-t5
-shared-slice-read-t5 c = search needs
-
-shared-slice-read-t7 : tie.Need-shared-slice-read-t7
-shared-slice-read-t7 c = search needs
-
-shared-slice-read-t9 : tie.Need-shared-slice-read-t9
-shared-slice-read-t9 c = search needs
-
-n8-at-requires : tie.Need-n8-at-requires
-n8-at-requires c κs = search needs
-
-n8-at-requires-2 : tie.Need-n8-at-requires-2
-n8-at-requires-2 c κs = search needs
-
 returns : tie.Need-returns
 unfolding orderNumbers
 returns c =
@@ -33,10 +15,10 @@ pub order-numbers-spec : {M : Type 1} → statement M
 order-numbers-spec =
     tie.close
     (tie.spec
-    shared-slice-read-t3
-    shared-slice-read-t5
-    shared-slice-read-t7
-    shared-slice-read-t9
-    n8-at-requires
-    n8-at-requires-2
+    (λ c. search needs)
+    (λ c. search needs)
+    (λ c. search needs)
+    (λ c. search needs)
+    (λ c κs. search needs)
+    (λ c κs. search needs)
     returns)

@@ -48,9 +48,6 @@ is-report c = passed (c .before .is-shaped6 .ensures) (c .if6 .taken)
 no-report : (c : tie.Else6) → shaped 2 6 (now (c .before .before .before .before .before .before .before .before .before .before .before .before .before .args .bytes)) ≡ false
 no-report c = failed (c .before .is-shaped6 .ensures) (c .if6 .left)
 
-is-shaped-requires : tie.Need-is-shaped-requires
-is-shaped-requires c κs = search needs
-
 two-at-requires : tie.Need-two-at-requires
 two-at-requires c κs = omega (arith, shaped-length 11 1 _ (is-parameter c))
 
@@ -60,9 +57,6 @@ n8-at-requires c κs = omega (arith, shaped-length 11 1 _ (is-parameter (c .befo
 returns : tie.Need-returns
 unfolding frameOf
 returns c = rw (is-parameter (c .before .before), toZ-ofZ (c .n8-at .ensures .1), c .before .two-at .ensures .0, c .n8-at .ensures .0) refl
-
-is-shaped-requires-2 : tie.Need-is-shaped-requires-2
-is-shaped-requires-2 c κs = search needs
 
 shared-slice-read-t8 : tie.Need-shared-slice-read-t8
 shared-slice-read-t8 c = omega (arith, shaped-length 3 2 _ (is-open (c .before)))
@@ -74,18 +68,12 @@ returns-2 : tie.Need-returns-2
 unfolding frameOf
 returns-2 c = rw (no-parameter (c .before .before .before .before), is-open (c .before .before)) refl
 
-is-shaped-requires-3 : tie.Need-is-shaped-requires-3
-is-shaped-requires-3 c κs = search needs
-
 move-numbers-requires : tie.Need-move-numbers-requires
 move-numbers-requires c κs = shaped-length 11 3 _ (is-move c)
 
 returns-3 : tie.Need-returns-3
 unfolding frameOf
 returns-3 c = rw (no-parameter (c .before .before .before .before .before), no-open (c .before .before .before), is-move (c .before)) (ap Move (c .move-numbers .ensures))
-
-is-shaped-requires-4 : tie.Need-is-shaped-requires-4
-is-shaped-requires-4 c κs = search needs
 
 order-numbers-requires : tie.Need-order-numbers-requires
 order-numbers-requires c κs = shaped-length 21 4 _ (is-order c)
@@ -94,18 +82,12 @@ returns-4 : tie.Need-returns-4
 unfolding frameOf
 returns-4 c = rw (no-parameter (c .before .before .before .before .before .before .before), no-open (c .before .before .before .before .before), no-move (c .before .before .before), is-order (c .before)) (ap Order (c .order-numbers .ensures))
 
-is-shaped-requires-5 : tie.Need-is-shaped-requires-5
-is-shaped-requires-5 c κs = search needs
-
 shared-slice-read-t17 : tie.Need-shared-slice-read-t17
 shared-slice-read-t17 c = omega (arith, shaped-length 2 5 _ (is-roll (c .before)))
 
 returns-5 : tie.Need-returns-5
 unfolding frameOf
 returns-5 c = rw (no-parameter (c .before .before .before .before .before .before .before .before .before), no-open (c .before .before .before .before .before .before .before), no-move (c .before .before .before .before .before), no-order (c .before .before .before), is-roll (c .before)) refl
-
-is-shaped-requires-6 : tie.Need-is-shaped-requires-6
-is-shaped-requires-6 c κs = search needs
 
 shared-slice-read-t20 : tie.Need-shared-slice-read-t20
 shared-slice-read-t20 c = omega (arith, shaped-length 2 6 _ (is-report (c .before)))
@@ -122,24 +104,24 @@ pub read-frame-spec : {M : Type 1} → statement M
 read-frame-spec =
     tie.close
     (tie.spec
-    is-shaped-requires
+    (λ c κs. search needs)
     two-at-requires
     n8-at-requires
     returns
-    is-shaped-requires-2
+    (λ c κs. search needs)
     shared-slice-read-t8
     shared-slice-read-t10
     returns-2
-    is-shaped-requires-3
+    (λ c κs. search needs)
     move-numbers-requires
     returns-3
-    is-shaped-requires-4
+    (λ c κs. search needs)
     order-numbers-requires
     returns-4
-    is-shaped-requires-5
+    (λ c κs. search needs)
     shared-slice-read-t17
     returns-5
-    is-shaped-requires-6
+    (λ c κs. search needs)
     shared-slice-read-t20
     returns-6
     returns-7)

@@ -92,57 +92,15 @@ abbrev μ-loop : tie.MeasureT-loop
 loop-holds : tie.Need-loop-holds Inv-loop μ-loop
 loop-holds c = record { twice = omega arith; inside = omega arith; same = refl; hex = refl; written = refl }
 
-add-loop : tie.Need-add-loop Inv-loop μ-loop
-add-loop c = search needs
-
-shared-slice-read-digit-value : tie.Need-shared-slice-read-digit-value Inv-loop μ-loop
-shared-slice-read-digit-value c = search needs
-
-digit-value-requires : tie.Need-digit-value-requires Inv-loop μ-loop
-digit-value-requires c κs = search needs
-
-add-digit-value : tie.Need-add-digit-value Inv-loop μ-loop
-add-digit-value c = search needs
-
-shared-slice-read-digit-value-2 : tie.Need-shared-slice-read-digit-value-2 Inv-loop μ-loop
-shared-slice-read-digit-value-2 c = search needs
-
-digit-value-requires-2 : tie.Need-digit-value-requires-2 Inv-loop μ-loop
-digit-value-requires-2 c κs = search needs
-
-same-length : tie.Need-same-length Inv-loop μ-loop
-same-length c = search needs
-
 returns : tie.Need-returns Inv-loop μ-loop
 returns c =
     let j = c .before .before .before .before .before .before .loop in
     (sym (j .inv .hex ∙ high-out _ (j .i) (c .before .before .before .before .before .loop-test .taken) (omega arith)), λ e. true-not-false e)
 
-same-length-2 : tie.Need-same-length-2 Inv-loop μ-loop
-same-length-2 c = search needs
-
 returns-2 : tie.Need-returns-2 Inv-loop μ-loop
 returns-2 c =
     let j = c .before .before .before .before .before .before .before .loop in
     (sym (j .inv .hex ∙ low-out _ (j .i) (c .before .before .before .before .before .before .loop-test .taken) (omega arith)), λ e. true-not-false e)
-
-mul-bytes : tie.Need-mul-bytes Inv-loop μ-loop
-mul-bytes c = search needs
-
-add-bytes : tie.Need-add-bytes Inv-loop μ-loop
-add-bytes c = search needs
-
-slice-write-bytes : tie.Need-slice-write-bytes Inv-loop μ-loop
-slice-write-bytes c = search needs
-
-add-i : tie.Need-add-i Inv-loop μ-loop
-add-i c = search needs
-
-add-k : tie.Need-add-k Inv-loop μ-loop
-add-k c = search needs
-
-loop-less : tie.Need-loop-less Inv-loop μ-loop
-loop-less c = search needs
 
 loop-again : tie.Need-loop-again Inv-loop μ-loop
 loop-again c =
@@ -156,9 +114,6 @@ loop-again c =
       written = j .inv .written ∙ one-more _ (j .i) h (j .bytes) (j .k) _ (omega arith) (omega arith);
     }
 
-same-length-3 : tie.Need-same-length-3 Inv-loop μ-loop
-same-length-3 c = search needs
-
 returns-3 : tie.Need-returns-3 Inv-loop μ-loop
 returns-3 c =
     let j = c .before .loop in
@@ -171,22 +126,22 @@ unhex-spec =
     Inv-loop
     μ-loop
     loop-holds
-    add-loop
-    shared-slice-read-digit-value
-    digit-value-requires
-    add-digit-value
-    shared-slice-read-digit-value-2
-    digit-value-requires-2
-    same-length
+    (λ c. search needs)
+    (λ c. search needs)
+    (λ c κs. search needs)
+    (λ c. search needs)
+    (λ c. search needs)
+    (λ c κs. search needs)
+    (λ c. search needs)
     returns
-    same-length-2
+    (λ c. search needs)
     returns-2
-    mul-bytes
-    add-bytes
-    slice-write-bytes
-    add-i
-    add-k
-    loop-less
+    (λ c. search needs)
+    (λ c. search needs)
+    (λ c. search needs)
+    (λ c. search needs)
+    (λ c. search needs)
+    (λ c. search needs)
     loop-again
-    same-length-3
+    (λ c. search needs)
     returns-3)

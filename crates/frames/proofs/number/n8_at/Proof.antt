@@ -8,12 +8,6 @@ use borrow.Author.Needs.{needs}
 use Rattle.frames.proofs.number.n8_at.Statement.{statement}
 use Rattle.frames.proofs.number.n8_at.Tie as tie
 
-eight-at-requires : tie.Need-eight-at-requires
-eight-at-requires c κs = search needs
-
-signed-requires : tie.Need-signed-requires
-signed-requires c κs = search needs
-
 returns : tie.Need-returns
 unfolding n8At
 returns c =
@@ -21,4 +15,4 @@ returns c =
     rw (toZ-ofZ (h .1)) (h .0 ∙ ap (toZ w64) (c .before .eight-at .ensures), h .1)
 
 pub n8-at-spec : {M : Type 1} → statement M
-n8-at-spec = tie.close (tie.spec eight-at-requires signed-requires returns)
+n8-at-spec = tie.close (tie.spec (λ c κs. search needs) (λ c κs. search needs) returns)

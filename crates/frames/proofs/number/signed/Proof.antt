@@ -26,15 +26,6 @@ module _ (u : ℕ) (fit : u < 18446744073709551616) (high : 9223372036854775808 
       let same : 18446744073709551616 - suc (18446744073709551615 - u) ≡ u = omega arith in
       value ∙ sym (toZ-neg w64 (18446744073709551615 - u) small) ∙ ap (toZ w64) same
 
-cast-result : tie.Need-cast-result
-cast-result c = search needs
-
-sub-m : tie.Need-sub-m
-sub-m c = search needs
-
-cast-result-2 : tie.Need-cast-result-2
-cast-result-2 c = search needs
-
 sub-result : tie.Need-sub-result
 sub-result c = fits (c .before .args .u) (c .before .fits .u .fits) (c .if1 .left)
 
@@ -47,4 +38,4 @@ returns-2 c =
     rw (toZ-ofZ {w = w64} s) (right u (c .before .fits .u .fits) (c .if1 .left), s)
 
 pub signed-spec : {M : Type 1} → statement M
-signed-spec = tie.close (tie.spec cast-result sub-m cast-result-2 sub-result returns returns-2)
+signed-spec = tie.close (tie.spec (λ c. search needs) (λ c. search needs) (λ c. search needs) sub-result returns returns-2)

@@ -10,15 +10,6 @@ use borrow.Author.Needs.{needs}
 use Rattle.session_lines.proofs.answer.put_report.Statement.{statement}
 use Rattle.session_lines.proofs.answer.put_report.Tie as tie
 
-slice-aggregate-put-answer : tie.Need-slice-aggregate-put-answer
-slice-aggregate-put-answer c = search needs
-
-put-answer-requires : tie.Need-put-answer-requires
-put-answer-requires c κs = search needs
-
-same-length : tie.Need-same-length
-same-length c = search needs
-
 abbrev s : tie.After-slice-known2 → tie.Start
 s c = c .before .before .before .before .before .before .before .before
 
@@ -36,4 +27,4 @@ returns c =
 
 pub put-report-spec : {M : Type 1} → statement M
 put-report-spec =
-    tie.close (tie.spec slice-aggregate-put-answer put-answer-requires same-length returns)
+    tie.close (tie.spec (λ c. search needs) (λ c κs. search needs) (λ c. search needs) returns)

@@ -24,36 +24,6 @@ fits c = search needs
 slice-aggregate-move-collateral : tie.Need-slice-aggregate-move-collateral
 slice-aggregate-move-collateral c = simp length-take (omega arith)
 
-sub-move-collateral : tie.Need-sub-move-collateral
-sub-move-collateral c = search needs
-
-part-move-collateral-start : tie.Need-part-move-collateral-start
-part-move-collateral-start c = search needs
-
-part-move-collateral-end : tie.Need-part-move-collateral-end
-part-move-collateral-end c = search needs
-
-sub-move-collateral-2 : tie.Need-sub-move-collateral-2
-sub-move-collateral-2 c = search needs
-
-part-move-collateral-start-2 : tie.Need-part-move-collateral-start-2
-part-move-collateral-start-2 c = search needs
-
-part-move-collateral-end-2 : tie.Need-part-move-collateral-end-2
-part-move-collateral-end-2 c = search needs
-
-cast-move-collateral : tie.Need-cast-move-collateral
-cast-move-collateral c = search needs
-
-cast-move-collateral-2 : tie.Need-cast-move-collateral-2
-cast-move-collateral-2 c = search needs
-
-move-collateral-requires : tie.Need-move-collateral-requires
-move-collateral-requires c κs = search needs
-
-same-length : tie.Need-same-length
-same-length c = search needs
-
 returns : tie.Need-returns
 unfolding part moveLeft
 returns c =
@@ -66,14 +36,14 @@ move-collateral-spec =
     tie.close
     (tie.spec
     slice-aggregate-move-collateral
-    sub-move-collateral
-    part-move-collateral-start
-    part-move-collateral-end
-    sub-move-collateral-2
-    part-move-collateral-start-2
-    part-move-collateral-end-2
-    cast-move-collateral
-    cast-move-collateral-2
-    move-collateral-requires
-    same-length
+    (λ c. search needs)
+    (λ c. search needs)
+    (λ c. search needs)
+    (λ c. search needs)
+    (λ c. search needs)
+    (λ c. search needs)
+    (λ c. search needs)
+    (λ c. search needs)
+    (λ c κs. search needs)
+    (λ c. search needs)
     returns)

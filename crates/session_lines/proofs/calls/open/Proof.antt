@@ -7,22 +7,10 @@ use borrow.Author.Needs.{needs}
 use Rattle.session_lines.proofs.calls.open.Statement.{statement}
 use Rattle.session_lines.proofs.calls.open.Tie as tie
 
-cast-open : tie.Need-cast-open
-cast-open c = search needs
-
-cast-open-2 : tie.Need-cast-open-2
-cast-open-2 c = search needs
-
-open-requires : tie.Need-open-requires
-open-requires c κs = search needs
-
-same-length : tie.Need-same-length
-same-length c = search needs
-
 returns : tie.Need-returns
 returns c =
     let a = c .before .before .before in
     c .before .«open» .ensures ∙ (λ i. openOutcome (now (a .args .book)) (byte-is (a .fits .account) i) (byte-is (a .fits .kind) i))
 
 pub open-spec : {M : Type 1} → statement M
-open-spec = tie.close (tie.spec cast-open cast-open-2 open-requires same-length returns)
+open-spec = tie.close (tie.spec (λ c. search needs) (λ c. search needs) (λ c κs. search needs) (λ c. search needs) returns)

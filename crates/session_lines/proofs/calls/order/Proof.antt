@@ -24,42 +24,6 @@ fits c = search needs
 slice-aggregate-order : tie.Need-slice-aggregate-order
 slice-aggregate-order c = simp length-take (omega arith)
 
-sub-order : tie.Need-sub-order
-sub-order c = search needs
-
-part-order-start : tie.Need-part-order-start
-part-order-start c = search needs
-
-part-order-end : tie.Need-part-order-end
-part-order-end c = search needs
-
-sub-order-2 : tie.Need-sub-order-2
-sub-order-2 c = search needs
-
-part-order-start-2 : tie.Need-part-order-start-2
-part-order-start-2 c = search needs
-
-part-order-end-2 : tie.Need-part-order-end-2
-part-order-end-2 c = search needs
-
-cast-order : tie.Need-cast-order
-cast-order c = search needs
-
-cast-order-2 : tie.Need-cast-order-2
-cast-order-2 c = search needs
-
-cast-order-3 : tie.Need-cast-order-3
-cast-order-3 c = search needs
-
-cast-order-4 : tie.Need-cast-order-4
-cast-order-4 c = search needs
-
-order-requires : tie.Need-order-requires
-order-requires c κs = search needs
-
-same-length : tie.Need-same-length
-same-length c = search needs
-
 returns : tie.Need-returns
 unfolding part orderLeft
 returns c =
@@ -72,16 +36,16 @@ order-spec =
     tie.close
     (tie.spec
     slice-aggregate-order
-    sub-order
-    part-order-start
-    part-order-end
-    sub-order-2
-    part-order-start-2
-    part-order-end-2
-    cast-order
-    cast-order-2
-    cast-order-3
-    cast-order-4
-    order-requires
-    same-length
+    (λ c. search needs)
+    (λ c. search needs)
+    (λ c. search needs)
+    (λ c. search needs)
+    (λ c. search needs)
+    (λ c. search needs)
+    (λ c. search needs)
+    (λ c. search needs)
+    (λ c. search needs)
+    (λ c. search needs)
+    (λ c κs. search needs)
+    (λ c. search needs)
     returns)

@@ -14,30 +14,6 @@ use Rattle.session_lines.proofs.calls.report.Tie as tie
 slice-aggregate-report : tie.Need-slice-aggregate-report
 slice-aggregate-report c = simp length-take (omega arith)
 
-sub-report : tie.Need-sub-report
-sub-report c = search needs
-
-part-report-start : tie.Need-part-report-start
-part-report-start c = search needs
-
-part-report-end : tie.Need-part-report-end
-part-report-end c = search needs
-
-sub-report-2 : tie.Need-sub-report-2
-sub-report-2 c = search needs
-
-part-report-start-2 : tie.Need-part-report-start-2
-part-report-start-2 c = search needs
-
-part-report-end-2 : tie.Need-part-report-end-2
-part-report-end-2 c = search needs
-
-cast-report : tie.Need-cast-report
-cast-report c = search needs
-
-report-requires : tie.Need-report-requires
-report-requires c κs = search needs
-
 returns : tie.Need-returns
 unfolding part
 returns c =
@@ -51,12 +27,12 @@ report-spec =
     tie.close
     (tie.spec
     slice-aggregate-report
-    sub-report
-    part-report-start
-    part-report-end
-    sub-report-2
-    part-report-start-2
-    part-report-end-2
-    cast-report
-    report-requires
+    (λ c. search needs)
+    (λ c. search needs)
+    (λ c. search needs)
+    (λ c. search needs)
+    (λ c. search needs)
+    (λ c. search needs)
+    (λ c. search needs)
+    (λ c κs. search needs)
     returns)

@@ -7,19 +7,10 @@ use borrow.Author.Needs.{needs}
 use Rattle.session_lines.proofs.calls.roll.Statement.{statement}
 use Rattle.session_lines.proofs.calls.roll.Tie as tie
 
-cast-roll : tie.Need-cast-roll
-cast-roll c = search needs
-
-roll-requires : tie.Need-roll-requires
-roll-requires c κs = search needs
-
-same-length : tie.Need-same-length
-same-length c = search needs
-
 returns : tie.Need-returns
 returns c =
     let a = c .before .before .before in
     c .before .roll .ensures ∙ ap (rollOutcome (now (a .args .book))) (byte-is (a .fits .account))
 
 pub roll-spec : {M : Type 1} → statement M
-roll-spec = tie.close (tie.spec cast-roll roll-requires same-length returns)
+roll-spec = tie.close (tie.spec (λ c. search needs) (λ c κs. search needs) (λ c. search needs) returns)

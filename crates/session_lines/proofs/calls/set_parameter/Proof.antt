@@ -7,15 +7,6 @@ use borrow.Author.Needs.{needs}
 use Rattle.session_lines.proofs.calls.set_parameter.Statement.{statement}
 use Rattle.session_lines.proofs.calls.set_parameter.Tie as tie
 
-mul-number : tie.Need-mul-number
-mul-number c = search needs
-
-slice-set-from-number : tie.Need-slice-set-from-number
-slice-set-from-number c = search needs
-
-same-length : tie.Need-same-length
-same-length c = search needs
-
 returns : tie.Need-returns
 unfolding parameterSet
 returns c = rw (lt-ltb _ _ (c .if1 .taken), toZ-ofZ (c .before .fits .number)) refl
@@ -26,4 +17,4 @@ returns-2 c = rw (le-ltb _ _ (c .if1 .left)) refl
 
 pub set-parameter-spec : {M : Type 1} → statement M
 set-parameter-spec =
-    tie.close (tie.spec mul-number slice-set-from-number same-length returns returns-2)
+    tie.close (tie.spec (λ c. search needs) (λ c. search needs) (λ c. search needs) returns returns-2)

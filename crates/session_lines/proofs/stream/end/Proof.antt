@@ -17,15 +17,6 @@ returns : tie.Need-returns
 unfolding ended isBlank held
 returns c = (rw (c .if1 .taken) refl, omega arith)
 
-frame-held-requires : tie.Need-frame-held-requires
-frame-held-requires c κs = search needs
-
-answer-requires : tie.Need-answer-requires
-answer-requires c κs = search needs
-
-same-length : tie.Need-same-length
-same-length c = search needs
-
 returns-2 : tie.Need-returns-2
 unfolding ended
 returns-2 c =
@@ -37,4 +28,4 @@ returns-2 c =
     )
 
 pub end-spec : {M : Type 1} → statement M
-end-spec = tie.close (tie.spec returns frame-held-requires answer-requires same-length returns-2)
+end-spec = tie.close (tie.spec returns (λ c κs. search needs) (λ c κs. search needs) (λ c. search needs) returns-2)

@@ -5,9 +5,9 @@ use Prim.Native.Nat.{ℕ, _-_, _≤_}
 use native.Mathlib.Omega.{arith}
 use lib.ListN.{length, drop}
 use borrow.Author.Needs.{needs}
-use Rattle.session_lines.specs.Stream.{Stream, closing, fed}
+use Rattle.session_lines.specs.Stream.{Stream, streamIn, empty, closing, fed}
 use Rattle.session_lines.proofs.Took.{took}
-use Rattle.session_lines.proofs.Steps.{streamIn, byte-taken, line-taken, line-waits, piece-ends, line-closed, line-said, written-inside}
+use Rattle.session_lines.proofs.Steps.{byte-taken, line-taken, line-waits, piece-ends, line-closed, line-said, written-inside}
 use Rattle.session_lines.proofs.stream.feed.Statement.{statement}
 use Rattle.session_lines.proofs.stream.feed.Tie as tie
 
@@ -15,7 +15,7 @@ record Kept (s₀ : Stream) (out₀ piece : List ℕ) (s : Stream) (out : List �
   inside : i ≤ length piece
   room : at ≤ length out
   long : length out ≡ length out₀
-  rest : fed s₀ (record { bytes = out₀; at = 0 }) 0 piece ≡ fed s (record { bytes = out; at = at }) i (drop i piece)
+  rest : fed s₀ (empty out₀) 0 piece ≡ fed s (record { bytes = out; at = at }) i (drop i piece)
 
 abbrev Inv-loop : tie.InvT-loop
 Inv-loop book₀ parameters₀ line₀ count piece out₀ held₀ at₀ i₀ book parameters line out held at i =
@@ -26,21 +26,6 @@ abbrev μ-loop : tie.MeasureT-loop
 
 loop-holds : tie.Need-loop-holds Inv-loop μ-loop
 loop-holds c = record { inside = omega arith; room = omega arith; long = refl; rest = refl }
-
-shared-slice-read-if1 : tie.Need-shared-slice-read-if1 Inv-loop μ-loop
-shared-slice-read-if1 c = search needs
-
-shared-slice-read-hold : tie.Need-shared-slice-read-hold Inv-loop μ-loop
-shared-slice-read-hold c = search needs
-
-hold-requires : tie.Need-hold-requires Inv-loop μ-loop
-hold-requires c κs = search needs
-
-add-i : tie.Need-add-i Inv-loop μ-loop
-add-i c = search needs
-
-loop-less : tie.Need-loop-less Inv-loop μ-loop
-loop-less c = search needs
 
 loop-again : tie.Need-loop-again Inv-loop μ-loop
 loop-again c =
@@ -53,29 +38,11 @@ loop-again c =
       rest = j .inv .rest ∙ byte-taken s _ (j .i) _ (c .before .before .before .before .before .loop-test .taken) _ (c .before .before .before .if1 .taken) (c .hold .ensures);
     }
 
-sub-if2 : tie.Need-sub-if2 Inv-loop μ-loop
-sub-if2 c = search needs
-
-same-length : tie.Need-same-length Inv-loop μ-loop
-same-length c = search needs
-
 returns : tie.Need-returns Inv-loop μ-loop
 returns c =
     let j = c .before .before .before .before .loop in
     let e = sym (j .inv .rest ∙ line-waits _ _ (j .i) _ (c .before .before .before .loop-test .taken) (c .before .if1 .left) (omega arith)) in
     (e, took _ _ _ (j .out) _ e (j .inv .long) (j .inv .room))
-
-frame-held-requires : tie.Need-frame-held-requires Inv-loop μ-loop
-frame-held-requires c κs = search needs
-
-answer-requires : tie.Need-answer-requires Inv-loop μ-loop
-answer-requires c κs = search needs
-
-add-i-2 : tie.Need-add-i-2 Inv-loop μ-loop
-add-i-2 c = search needs
-
-loop-less-2 : tie.Need-loop-less-2 Inv-loop μ-loop
-loop-less-2 c = search needs
 
 loop-again-2 : tie.Need-loop-again-2 Inv-loop μ-loop
 loop-again-2 c =
@@ -92,9 +59,6 @@ loop-again-2 c =
       rest = j .inv .rest ∙ line-taken s _ (j .i) _ (c .before .before .before .before .before .before .before .before .before .before .before .before .loop-test .taken) _ _ (c .before .before .before .before .before .before .before .before .before .before .if1 .left) (omega arith) closed said;
     }
 
-same-length-2 : tie.Need-same-length-2 Inv-loop μ-loop
-same-length-2 c = search needs
-
 returns-2 : tie.Need-returns-2 Inv-loop μ-loop
 returns-2 c =
     let j = c .before .loop in
@@ -108,19 +72,19 @@ feed-spec =
     Inv-loop
     μ-loop
     loop-holds
-    shared-slice-read-if1
-    shared-slice-read-hold
-    hold-requires
-    add-i
-    loop-less
+    (λ c. search needs)
+    (λ c. search needs)
+    (λ c κs. search needs)
+    (λ c. search needs)
+    (λ c. search needs)
     loop-again
-    sub-if2
-    same-length
+    (λ c. search needs)
+    (λ c. search needs)
     returns
-    frame-held-requires
-    answer-requires
-    add-i-2
-    loop-less-2
+    (λ c κs. search needs)
+    (λ c κs. search needs)
+    (λ c. search needs)
+    (λ c. search needs)
     loop-again-2
-    same-length-2
+    (λ c. search needs)
     returns-2)

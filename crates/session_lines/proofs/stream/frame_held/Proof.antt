@@ -15,12 +15,9 @@ returns c = rw (lt-leb _ _ (c .if1 .taken)) refl
 slice-aggregate-frame-of : tie.Need-slice-aggregate-frame-of
 slice-aggregate-frame-of c = simp length-take (omega arith)
 
-frame-of-requires : tie.Need-frame-of-requires
-frame-of-requires c κs = search needs
-
 returns-2 : tie.Need-returns-2
 unfolding frameHeld held
 returns-2 c = rw (le-leb _ _ (c .before .before .if1 .left)) (c .frame-of .ensures)
 
 pub frame-held-spec : {M : Type 1} → statement M
-frame-held-spec = tie.close (tie.spec returns slice-aggregate-frame-of frame-of-requires returns-2)
+frame-held-spec = tie.close (tie.spec returns slice-aggregate-frame-of (λ c κs. search needs) returns-2)
