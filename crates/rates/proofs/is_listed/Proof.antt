@@ -11,17 +11,11 @@ use Rattle.rates.proofs.is_listed.Tie as tie
 returns : tie.Need-returns
 returns c = sym (no-such-asset _ _ (omega arith))
 
-mul-at : tie.Need-mul-at
-mul-at c = search needs
-
 returns-2 : tie.Need-returns-2
 returns-2 c = sym (no-row _ _ (omega arith) (omega arith))
-
-number-between-requires : tie.Need-number-between-requires
-number-between-requires c κs = search needs
 
 returns-3 : tie.Need-returns-3
 returns-3 c = ap not (c .number-between .ensures) ∙ sym (listed-by-kind _ _ (omega arith))
 
 pub is-listed-spec : {M : Type 1} → statement M
-is-listed-spec = tie.close (tie.spec returns mul-at returns-2 number-between-requires returns-3)
+is-listed-spec = tie.close (tie.spec returns (λ c. search needs) returns-2 (λ c κs. search needs) returns-3)

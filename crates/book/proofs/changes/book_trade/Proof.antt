@@ -19,27 +19,6 @@ use Rattle.book.proofs.Codes.{turned-away, let-through}
 use Rattle.book.proofs.changes.book_trade.Statement.{statement}
 use Rattle.book.proofs.changes.book_trade.Tie as tie
 
-mul-at : tie.Need-mul-at
-mul-at c = search needs
-
-add-at : tie.Need-add-at
-add-at c = search needs
-
-mul-at-2 : tie.Need-mul-at-2
-mul-at-2 c = search needs
-
-add-at-2 : tie.Need-add-at-2
-add-at-2 c = search needs
-
-add-at-3 : tie.Need-add-at-3
-add-at-3 c = search needs
-
-add-net : tie.Need-add-net
-add-net c = search needs
-
-money-of-requires : tie.Need-money-of-requires
-money-of-requires c κs = search needs
-
 -- the quantity and the money as the code holds them
 quantity-back : (c : tie.Start) → back (c .args .t .quantity) ≡ c .args .t .quantity
 quantity-back c = toZ-ofZ (c .pre .2 .quantity-upto .fits)
@@ -72,9 +51,6 @@ fits-after-requires c κs =
     let s = c .before .before .before .before .before .before .before in
     (quantity-inside _ (s .pre .2) (s .args .block .now) (s .pre .0), quantity-before _ _ (s .pre), quantity-within s)
 
-same-length : tie.Need-same-length
-same-length c = search needs
-
 returns : tie.Need-returns
 unfolding tradeCode
 returns c =
@@ -82,17 +58,11 @@ returns c =
     turned-away (traded (s .args .block .now) (s .args .t)) (s .args .block .now)
     (quantity-out _ _ (s .pre) (taken (quantity-tested (c .before)) (c .if1 .taken)))
 
-sub-fits-after : tie.Need-sub-fits-after
-sub-fits-after c = search needs
-
 fits-after-requires-2 : tie.Need-fits-after-requires-2
 fits-after-requires-2 c κs =
     let m = c .before .before .before .before .before in
     let s = m .before .before .before .before .before in
     (net-inside _ (s .pre .2) (s .args .block .now) (s .pre .0), net-before _ _ (s .pre), money-size m)
-
-same-length-2 : tie.Need-same-length-2
-same-length-2 c = search needs
 
 returns-2 : tie.Need-returns-2
 unfolding tradeCode
@@ -113,9 +83,6 @@ add-requires-2 c κs =
     let e = c .before .before .add .ensures in
     (rw e (net-inside-then _ _ (s .pre) _), rw e (net-then _ _ (s .pre) _), money-size m)
 
-same-length-3 : tie.Need-same-length-3
-same-length-3 c = search needs
-
 returns-3 : tie.Need-returns-3
 unfolding tradeCode traded
 returns-3 c =
@@ -134,21 +101,21 @@ pub book-trade-spec : {M : Type 1} → statement M
 book-trade-spec =
     tie.close
     (tie.spec
-    mul-at
-    add-at
-    mul-at-2
-    add-at-2
-    add-at-3
-    add-net
-    money-of-requires
+    (λ c. search needs)
+    (λ c. search needs)
+    (λ c. search needs)
+    (λ c. search needs)
+    (λ c. search needs)
+    (λ c. search needs)
+    (λ c κs. search needs)
     fits-after-requires
-    same-length
+    (λ c. search needs)
     returns
-    sub-fits-after
+    (λ c. search needs)
     fits-after-requires-2
-    same-length-2
+    (λ c. search needs)
     returns-2
     add-requires
     add-requires-2
-    same-length-3
+    (λ c. search needs)
     returns-3)

@@ -6,17 +6,8 @@ use Rattle.book.proofs.Amounts.{sum-fits, summed}
 use Rattle.book.proofs.changes.fits_after.Statement.{statement}
 use Rattle.book.proofs.changes.fits_after.Tie as tie
 
-mul-lies-between : tie.Need-mul-lies-between
-mul-lies-between c = search needs
-
-shared-slice-copy-out-lies-between : tie.Need-shared-slice-copy-out-lies-between
-shared-slice-copy-out-lies-between c = search needs
-
 add-lies-between : tie.Need-add-lies-between
 add-lies-between c = let s = c .before in sum-fits (s .pre .1) (s .pre .2)
-
-lies-between-requires : tie.Need-lies-between-requires
-lies-between-requires c κs = search needs
 
 returns : tie.Need-returns
 returns c =
@@ -27,8 +18,8 @@ pub fits-after-spec : {M : Type 1} → statement M
 fits-after-spec =
     tie.close
     (tie.spec
-    mul-lies-between
-    shared-slice-copy-out-lies-between
+    (λ c. search needs)
+    (λ c. search needs)
     add-lies-between
-    lies-between-requires
+    (λ c κs. search needs)
     returns)

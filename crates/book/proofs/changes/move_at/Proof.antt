@@ -11,15 +11,6 @@ use Rattle.book.proofs.Codes.{turned-away, let-through}
 use Rattle.book.proofs.changes.move_at.Statement.{statement}
 use Rattle.book.proofs.changes.move_at.Tie as tie
 
-least-after-requires : tie.Need-least-after-requires
-least-after-requires c κs = search needs
-
-fits-after-requires : tie.Need-fits-after-requires
-fits-after-requires c κs = search needs
-
-same-length : tie.Need-same-length
-same-length c = search needs
-
 -- what the test says, in the definition's words
 tested : (c : tie.After-fits-after) → let s = c .before .before .before in
     c .fits-after .result ≡ between (leastAfter (s .args .amount) (s .args .most)) (number (s .args .block .now) (s .args .k) +ℤ s .args .amount) (s .args .most)
@@ -32,12 +23,6 @@ unfolding moveCodeAt
 returns c = let s = c .before .before .before .before in
     turned-away (added (s .args .block .now) (s .args .k) (s .args .amount)) (s .args .block .now) (taken (tested (c .before)) (c .if1 .taken))
 
-add-requires : tie.Need-add-requires
-add-requires c κs = search needs
-
-same-length-2 : tie.Need-same-length-2
-same-length-2 c = search needs
-
 returns-2 : tie.Need-returns-2
 unfolding moveCodeAt
 returns-2 c = let s = c .before .before .before .before .before .before .before in
@@ -49,10 +34,10 @@ pub move-at-spec : {M : Type 1} → statement M
 move-at-spec =
     tie.close
     (tie.spec
-    least-after-requires
-    fits-after-requires
-    same-length
+    (λ c κs. search needs)
+    (λ c κs. search needs)
+    (λ c. search needs)
     returns
-    add-requires
-    same-length-2
+    (λ c κs. search needs)
+    (λ c. search needs)
     returns-2)

@@ -22,9 +22,6 @@ move-at-requires : tie.Need-move-at-requires
 move-at-requires c κs = let s = c .before .before in
     (omega arith, rubles-before _ _ _ (s .pre), amount-within s, record { low = omega ints; high = omega ints; fits = omega ints })
 
-same-length : tie.Need-same-length
-same-length c = search needs
-
 returns : tie.Need-returns
 unfolding moved
 returns c = let s = c .before .before .before .before in
@@ -50,9 +47,6 @@ move-at-requires-2 c κs = let s = c .before .before in (
   record { low = omega ints; high = omega ints; fits = omega ints },
 )
 
-same-length-2 : tie.Need-same-length-2
-same-length-2 c = search needs
-
 returns-2 : tie.Need-returns-2
 unfolding moved
 returns-2 c = let s = c .before .before .before .before in
@@ -70,10 +64,10 @@ move-collateral-spec =
     tie.close
     (tie.spec
     move-at-requires
-    same-length
+    (λ c. search needs)
     returns
     mul-move-at
     add-move-at
     move-at-requires-2
-    same-length-2
+    (λ c. search needs)
     returns-2)

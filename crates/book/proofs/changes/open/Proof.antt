@@ -8,15 +8,9 @@ use Rattle.book.specs.Changes.{opened}
 use Rattle.book.proofs.changes.open.Statement.{statement}
 use Rattle.book.proofs.changes.open.Tie as tie
 
-slice-set-from-kind : tie.Need-slice-set-from-kind
-slice-set-from-kind c = search needs
-
-same-length : tie.Need-same-length
-same-length c = search needs
-
 returns : tie.Need-returns
 unfolding opened
 returns c = ap (λ (z : ℤ). set (c .args .block .now) 0 z) (toZ-ofZ (c .fits .kind))
 
 pub open-spec : {M : Type 1} → statement M
-open-spec = tie.close (tie.spec slice-set-from-kind same-length returns)
+open-spec = tie.close (tie.spec (λ c. search needs) (λ c. search needs) returns)

@@ -18,9 +18,6 @@ add-requires : tie.Need-add-requires
 add-requires c κs = let p = c .before .before .pre in
     (omega arith, rubles-before _ _ _ p, subst (λ (z : ℤ). z within large) (sym (negated (p .3))) (negative-within (p .3)))
 
-same-length : tie.Need-same-length
-same-length c = search needs
-
 returns : tie.Need-returns
 unfolding moved
 returns c = let s = c .before .before .before .before in
@@ -39,9 +36,6 @@ add-requires-2 : tie.Need-add-requires-2
 add-requires-2 c κs = let p = c .before .before .pre in
     (collateral-inside _ _ _ p (c .before .if1 .left), collateral-before _ _ _ p (c .before .if1 .left), subst (λ (z : ℤ). z within large) (sym (negated (p .3))) (negative-within (p .3)))
 
-same-length-2 : tie.Need-same-length-2
-same-length-2 c = search needs
-
 returns-2 : tie.Need-returns-2
 unfolding moved
 returns-2 c = let s = c .before .before .before .before in
@@ -53,11 +47,11 @@ take-back-move-spec =
     (tie.spec
     sub-add
     add-requires
-    same-length
+    (λ c. search needs)
     returns
     mul-add
     add-add
     sub-add-2
     add-requires-2
-    same-length-2
+    (λ c. search needs)
     returns-2)

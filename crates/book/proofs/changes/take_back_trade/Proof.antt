@@ -13,27 +13,6 @@ use Rattle.book.proofs.Trades.{quantityAt, netAt, quantity-inside, quan
 use Rattle.book.proofs.changes.take_back_trade.Statement.{statement}
 use Rattle.book.proofs.changes.take_back_trade.Tie as tie
 
-mul-at : tie.Need-mul-at
-mul-at c = search needs
-
-add-at : tie.Need-add-at
-add-at c = search needs
-
-mul-at-2 : tie.Need-mul-at-2
-mul-at-2 c = search needs
-
-add-at-2 : tie.Need-add-at-2
-add-at-2 c = search needs
-
-add-at-3 : tie.Need-add-at-3
-add-at-3 c = search needs
-
-add-net : tie.Need-add-net
-add-net c = search needs
-
-money-of-requires : tie.Need-money-of-requires
-money-of-requires c κs = search needs
-
 -- the negated quantity and money as the code holds them
 quantity-size : (c : tie.Start) → c .args .t .quantity within large
 quantity-size c = wider large (upto-within (c .pre .2 .quantity-upto)) (omega arith)
@@ -67,9 +46,6 @@ add-requires-2 c κs = let s = c .before .before .before .before .before .before
       subst (λ (z : ℤ). z within large) (sym (negated (m .money-of .ensures .1))) (negative-within (m .money-of .ensures .1)),
     )
 
-same-length : tie.Need-same-length
-same-length c = search needs
-
 returns : tie.Need-returns
 unfolding untraded
 returns c =
@@ -84,16 +60,16 @@ pub take-back-trade-spec : {M : Type 1} → statement M
 take-back-trade-spec =
     tie.close
     (tie.spec
-    mul-at
-    add-at
-    mul-at-2
-    add-at-2
-    add-at-3
-    add-net
-    money-of-requires
+    (λ c. search needs)
+    (λ c. search needs)
+    (λ c. search needs)
+    (λ c. search needs)
+    (λ c. search needs)
+    (λ c. search needs)
+    (λ c κs. search needs)
     sub-add
     add-requires
     sub-add-2
     add-requires-2
-    same-length
+    (λ c. search needs)
     returns)

@@ -22,27 +22,6 @@ abbrev μ-loop : tie.MeasureT-loop
 loop-holds : tie.Need-loop-holds Inv-loop μ-loop
 loop-holds c = (c .pre, c .pre, omega arith, refl)
 
-add-numbers : tie.Need-add-numbers Inv-loop μ-loop
-add-numbers c = search needs
-
-mul-numbers : tie.Need-mul-numbers Inv-loop μ-loop
-mul-numbers c = search needs
-
-slice-copy-out-numbers : tie.Need-slice-copy-out-numbers Inv-loop μ-loop
-slice-copy-out-numbers c = search needs
-
-mul-t8 : tie.Need-mul-t8 Inv-loop μ-loop
-mul-t8 c = search needs
-
-slice-set-from-numbers : tie.Need-slice-set-from-numbers Inv-loop μ-loop
-slice-set-from-numbers c = search needs
-
-add-d : tie.Need-add-d Inv-loop μ-loop
-add-d c = search needs
-
-loop-less : tie.Need-loop-less Inv-loop μ-loop
-loop-less c = search needs
-
 loop-again : tie.Need-loop-again Inv-loop μ-loop
 loop-again c =
     let l = c .before .before .loop in
@@ -55,9 +34,6 @@ loop-again c =
           ∙ ap (set (stepped (l .d) xs) (l .d)) (stepped-ahead xs (l .d) (omega arith))
           ∙ stepped-on xs (l .d) (omega arith) (omega arith),
     )
-
-slice-set-of-numbers : tie.Need-slice-set-of-numbers Inv-loop μ-loop
-slice-set-of-numbers c = search needs
 
 same-length : tie.Need-same-length Inv-loop μ-loop
 same-length c = let l = c .before .loop in simp length-set (l .inv .1 ∙ sym (l .inv .0))
@@ -76,14 +52,14 @@ day-later-spec =
     Inv-loop
     μ-loop
     loop-holds
-    add-numbers
-    mul-numbers
-    slice-copy-out-numbers
-    mul-t8
-    slice-set-from-numbers
-    add-d
-    loop-less
+    (λ c. search needs)
+    (λ c. search needs)
+    (λ c. search needs)
+    (λ c. search needs)
+    (λ c. search needs)
+    (λ c. search needs)
+    (λ c. search needs)
     loop-again
-    slice-set-of-numbers
+    (λ c. search needs)
     same-length
     returns)

@@ -9,26 +9,11 @@ use Rattle.book.proofs.InBounds.{collateral-size, claim-size, obligatio
 use Rattle.book.proofs.rolling.holding_fits.Statement.{statement}
 use Rattle.book.proofs.rolling.holding_fits.Tie as tie
 
-sub-lies-between : tie.Need-sub-lies-between
-sub-lies-between c = search needs
-
-shared-slice-copy-out-lies-between : tie.Need-shared-slice-copy-out-lies-between
-shared-slice-copy-out-lies-between c = search needs
-
-shared-slice-copy-out-lies-between-2 : tie.Need-shared-slice-copy-out-lies-between-2
-shared-slice-copy-out-lies-between-2 c = search needs
-
 add-lies-between : tie.Need-add-lies-between
 add-lies-between c = let h = c .before .before .pre in sum-fits (collateral-size h) (claim-size h)
 
-shared-slice-copy-out-lies-between-3 : tie.Need-shared-slice-copy-out-lies-between-3
-shared-slice-copy-out-lies-between-3 c = search needs
-
 sub-lies-between-2 : tie.Need-sub-lies-between-2
 sub-lies-between-2 c = let h = c .before .before .before .pre in difference-fits (collateral-size h) (claim-size h) (obligation-size h)
-
-lies-between-requires : tie.Need-lies-between-requires
-lies-between-requires c κs = search needs
 
 returns : tie.Need-returns
 unfolding rolledHolding
@@ -39,11 +24,11 @@ pub holding-fits-spec : {M : Type 1} → statement M
 holding-fits-spec =
     tie.close
     (tie.spec
-    sub-lies-between
-    shared-slice-copy-out-lies-between
-    shared-slice-copy-out-lies-between-2
+    (λ c. search needs)
+    (λ c. search needs)
+    (λ c. search needs)
     add-lies-between
-    shared-slice-copy-out-lies-between-3
+    (λ c. search needs)
     sub-lies-between-2
-    lies-between-requires
+    (λ c κs. search needs)
     returns)

@@ -6,21 +6,9 @@ use Rattle.book.proofs.Codes.{turned-away, let-through}
 use Rattle.book.proofs.rolling.roll.Statement.{statement}
 use Rattle.book.proofs.rolling.roll.Tie as tie
 
-roll-fits-requires : tie.Need-roll-fits-requires
-roll-fits-requires c κs = search needs
-
-same-length : tie.Need-same-length
-same-length c = search needs
-
 returns : tie.Need-returns
 unfolding rollCode
 returns c = let s = c .before .before .before in turned-away (rolled (s .args .block .now)) (s .args .block .now) (taken (c .before .roll-fits .ensures) (c .if1 .taken))
-
-roll-stretches-requires : tie.Need-roll-stretches-requires
-roll-stretches-requires c κs = search needs
-
-same-length-2 : tie.Need-same-length-2
-same-length-2 c = search needs
 
 returns-2 : tie.Need-returns-2
 unfolding rollCode
@@ -32,9 +20,9 @@ pub roll-spec : {M : Type 1} → statement M
 roll-spec =
     tie.close
     (tie.spec
-    roll-fits-requires
-    same-length
+    (λ c κs. search needs)
+    (λ c. search needs)
     returns
-    roll-stretches-requires
-    same-length-2
+    (λ c κs. search needs)
+    (λ c. search needs)
     returns-2)

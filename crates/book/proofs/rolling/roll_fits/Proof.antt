@@ -28,15 +28,6 @@ abbrev μ-loop : tie.MeasureT-loop
 fits : {lent holding : List ℤ} → lent ≡ holding → collateralRight (number (rolledHolding holding) 0) ≡ collateralRight (number (rolledHolding lent) 0)
 fits e = ap (λ (h : List ℤ). collateralRight (number (rolledHolding h) 0)) (sym e)
 
-sub-rubles-fit : tie.Need-sub-rubles-fit Inv-loop μ-loop
-sub-rubles-fit c = search needs
-
-part-rubles-fit-start : tie.Need-part-rubles-fit-start Inv-loop μ-loop
-part-rubles-fit-start c = search needs
-
-part-rubles-fit-end : tie.Need-part-rubles-fit-end Inv-loop μ-loop
-part-rubles-fit-end c = search needs
-
 rubles-fit-requires : tie.Need-rubles-fit-requires Inv-loop μ-loop
 unfolding part
 rubles-fit-requires c κs = let p = c .before .pre in ruble-ranges _ (p .0) (p .1)
@@ -49,27 +40,6 @@ loop-holds : tie.Need-loop-holds Inv-loop μ-loop
 unfolding holdingsRight
 loop-holds c = (c .before .before .before .pre .0, omega arith, refl)
 
-mul-at : tie.Need-mul-at Inv-loop μ-loop
-mul-at c = search needs
-
-add-at : tie.Need-add-at Inv-loop μ-loop
-add-at c = search needs
-
-add-holding-fits : tie.Need-add-holding-fits Inv-loop μ-loop
-add-holding-fits c = search needs
-
-mul-holding-fits : tie.Need-mul-holding-fits Inv-loop μ-loop
-mul-holding-fits c = search needs
-
-sub-holding-fits : tie.Need-sub-holding-fits Inv-loop μ-loop
-sub-holding-fits c = search needs
-
-part-holding-fits-start : tie.Need-part-holding-fits-start Inv-loop μ-loop
-part-holding-fits-start c = search needs
-
-part-holding-fits-end : tie.Need-part-holding-fits-end Inv-loop μ-loop
-part-holding-fits-end c = search needs
-
 holding-fits-requires : tie.Need-holding-fits-requires Inv-loop μ-loop
 holding-fits-requires c κs = let p = c .before .before .before .before .before .before .pre in
     let a = c .before .before .loop .a in
@@ -79,12 +49,6 @@ returns-2 : tie.Need-returns-2 Inv-loop μ-loop
 returns-2 c = let p = c .before .before .before .before .before .before .before .before .pre in
     let a = c .before .before .before .before .loop .a in
     sym (holding-out _ (p .0) (p .1) a (omega arith) (fits (lent-holding _ a) ∙ taken (c .before .holding-fits .ensures) (c .if2 .taken)))
-
-add-a : tie.Need-add-a Inv-loop μ-loop
-add-a c = search needs
-
-loop-less : tie.Need-loop-less Inv-loop μ-loop
-loop-less c = search needs
 
 loop-again : tie.Need-loop-again Inv-loop μ-loop
 loop-again c = let p = c .before .before .before .before .before .before .before .before .pre in
@@ -104,22 +68,22 @@ roll-fits-spec =
     (tie.spec
     Inv-loop
     μ-loop
-    sub-rubles-fit
-    part-rubles-fit-start
-    part-rubles-fit-end
+    (λ c. search needs)
+    (λ c. search needs)
+    (λ c. search needs)
     rubles-fit-requires
     returns
     loop-holds
-    mul-at
-    add-at
-    add-holding-fits
-    mul-holding-fits
-    sub-holding-fits
-    part-holding-fits-start
-    part-holding-fits-end
+    (λ c. search needs)
+    (λ c. search needs)
+    (λ c. search needs)
+    (λ c. search needs)
+    (λ c. search needs)
+    (λ c. search needs)
+    (λ c. search needs)
     holding-fits-requires
     returns-2
-    add-a
-    loop-less
+    (λ c. search needs)
+    (λ c. search needs)
     loop-again
     returns-3)

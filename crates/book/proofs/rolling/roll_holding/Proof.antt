@@ -9,47 +9,17 @@ use Rattle.book.proofs.DayLater.{holding-rolled}
 use Rattle.book.proofs.rolling.roll_holding.Statement.{statement}
 use Rattle.book.proofs.rolling.roll_holding.Tie as tie
 
-slice-copy-out-holding : tie.Need-slice-copy-out-holding
-slice-copy-out-holding c = search needs
-
-slice-copy-out-holding-2 : tie.Need-slice-copy-out-holding-2
-slice-copy-out-holding-2 c = search needs
-
 add-holding : tie.Need-add-holding
 add-holding c = let h = c .before .before .pre in sum-fits (collateral-size h) (claim-size h)
-
-slice-copy-out-holding-3 : tie.Need-slice-copy-out-holding-3
-slice-copy-out-holding-3 c = search needs
 
 sub-holding : tie.Need-sub-holding
 sub-holding c = let h = c .before .before .before .pre in difference-fits (collateral-size h) (claim-size h) (obligation-size h)
 
-slice-set-from-holding : tie.Need-slice-set-from-holding
-slice-set-from-holding c = search needs
-
-sub-day-later : tie.Need-sub-day-later
-sub-day-later c = search needs
-
-part-day-later-start : tie.Need-part-day-later-start
-part-day-later-start c = search needs
-
 part-day-later-end : tie.Need-part-day-later-end
 part-day-later-end c = let h = c .before .before .before .pre in simp length-set (omega arith)
 
-day-later-requires : tie.Need-day-later-requires
-day-later-requires c κs = search needs
-
-sub-day-later-2 : tie.Need-sub-day-later-2
-sub-day-later-2 c = search needs
-
-part-day-later-start-2 : tie.Need-part-day-later-start-2
-part-day-later-start-2 c = search needs
-
 part-day-later-end-2 : tie.Need-part-day-later-end-2
 part-day-later-end-2 c = let h = c .before .before .before .before .before .before .pre in omega (arith, simp length-set at (c .holding4 .given .1))
-
-day-later-requires-2 : tie.Need-day-later-requires-2
-day-later-requires-2 c κs = search needs
 
 same-length : tie.Need-same-length
 same-length c = c .holding5 .given .1 ∙ c .before .before .before .holding4 .given .1 ∙ simp length-set
@@ -63,19 +33,19 @@ pub roll-holding-spec : {M : Type 1} → statement M
 roll-holding-spec =
     tie.close
     (tie.spec
-    slice-copy-out-holding
-    slice-copy-out-holding-2
+    (λ c. search needs)
+    (λ c. search needs)
     add-holding
-    slice-copy-out-holding-3
+    (λ c. search needs)
     sub-holding
-    slice-set-from-holding
-    sub-day-later
-    part-day-later-start
+    (λ c. search needs)
+    (λ c. search needs)
+    (λ c. search needs)
     part-day-later-end
-    day-later-requires
-    sub-day-later-2
-    part-day-later-start-2
+    (λ c κs. search needs)
+    (λ c. search needs)
+    (λ c. search needs)
     part-day-later-end-2
-    day-later-requires-2
+    (λ c κs. search needs)
     same-length
     returns)

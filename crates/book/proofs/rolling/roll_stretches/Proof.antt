@@ -26,15 +26,6 @@ so-far : (c : tie.At-loop Inv-loop μ-loop) → c .loop .block ≡ rolledTo (c .
 so-far c = let s = c .before .before .before .before in
     c .loop .inv .2 (s .args .block .now) (s .pre .0) (to-begin (s .args .block .now) (s .pre .0) _ (c .before .before .roll-rubles .ensures))
 
-sub-roll-rubles : tie.Need-sub-roll-rubles Inv-loop μ-loop
-sub-roll-rubles c = search needs
-
-part-roll-rubles-start : tie.Need-part-roll-rubles-start Inv-loop μ-loop
-part-roll-rubles-start c = search needs
-
-part-roll-rubles-end : tie.Need-part-roll-rubles-end Inv-loop μ-loop
-part-roll-rubles-end c = search needs
-
 roll-rubles-requires : tie.Need-roll-rubles-requires Inv-loop μ-loop
 unfolding part
 roll-rubles-requires c κs = let p = c .before .pre in ruble-ranges _ (p .0) (p .1)
@@ -42,38 +33,11 @@ roll-rubles-requires c κs = let p = c .before .pre in ruble-ranges _ (p .0) (p 
 loop-holds : tie.Need-loop-holds Inv-loop μ-loop
 loop-holds c = (c .block .given .1 ∙ c .before .before .before .pre .0, omega arith, λ found long e. e)
 
-mul-at : tie.Need-mul-at Inv-loop μ-loop
-mul-at c = search needs
-
-add-at : tie.Need-add-at Inv-loop μ-loop
-add-at c = search needs
-
-add-roll-holding : tie.Need-add-roll-holding Inv-loop μ-loop
-add-roll-holding c = search needs
-
-mul-roll-holding : tie.Need-mul-roll-holding Inv-loop μ-loop
-mul-roll-holding c = search needs
-
-sub-roll-holding : tie.Need-sub-roll-holding Inv-loop μ-loop
-sub-roll-holding c = search needs
-
-part-roll-holding-start : tie.Need-part-roll-holding-start Inv-loop μ-loop
-part-roll-holding-start c = search needs
-
-part-roll-holding-end : tie.Need-part-roll-holding-end Inv-loop μ-loop
-part-roll-holding-end c = search needs
-
 roll-holding-requires : tie.Need-roll-holding-requires Inv-loop μ-loop
 roll-holding-requires c κs =
     let p = c .before .before .before .before .before .before .pre in
     let l = c .before .before .loop in
     subst HoldingRanges (sym (holding-next-up _ (p .0) (l .a) (omega arith) (l .block) (so-far (c .before .before)))) (holding-ranges _ (p .0) (p .1) (l .a) (omega arith))
-
-add-a : tie.Need-add-a Inv-loop μ-loop
-add-a c = search needs
-
-loop-less : tie.Need-loop-less Inv-loop μ-loop
-loop-less c = search needs
 
 loop-again : tie.Need-loop-again Inv-loop μ-loop
 loop-again c =
@@ -96,21 +60,21 @@ roll-stretches-spec =
     (tie.spec
     Inv-loop
     μ-loop
-    sub-roll-rubles
-    part-roll-rubles-start
-    part-roll-rubles-end
+    (λ c. search needs)
+    (λ c. search needs)
+    (λ c. search needs)
     roll-rubles-requires
     loop-holds
-    mul-at
-    add-at
-    add-roll-holding
-    mul-roll-holding
-    sub-roll-holding
-    part-roll-holding-start
-    part-roll-holding-end
+    (λ c. search needs)
+    (λ c. search needs)
+    (λ c. search needs)
+    (λ c. search needs)
+    (λ c. search needs)
+    (λ c. search needs)
+    (λ c. search needs)
     roll-holding-requires
-    add-a
-    loop-less
+    (λ c. search needs)
+    (λ c. search needs)
     loop-again
     same-length
     returns)

@@ -39,19 +39,10 @@ cleaned c = ap₂ (λ (low high : ℤ). allTrue (map (lies low high) (c .args .n
 loop-holds : tie.Need-loop-holds Inv-loop μ-loop
 loop-holds c = (omega arith, refl)
 
-number-between-requires : tie.Need-number-between-requires Inv-loop μ-loop
-number-between-requires c κs = search needs
-
 returns : tie.Need-returns Inv-loop μ-loop
 returns c =
     let l = c .before .before .before .loop in
     sym (cleaned (c .before .before .before .before) ∙ l .inv .1 ∙ all-out _ (pos 0) _ (l .k) (omega arith) (taken (c .before .number-between .ensures) (c .if1 .taken)))
-
-add-k : tie.Need-add-k Inv-loop μ-loop
-add-k c = search needs
-
-loop-less : tie.Need-loop-less Inv-loop μ-loop
-loop-less c = search needs
 
 loop-again : tie.Need-loop-again Inv-loop μ-loop
 loop-again c =
@@ -68,9 +59,9 @@ all-between-spec =
     Inv-loop
     μ-loop
     loop-holds
-    number-between-requires
+    (λ c κs. search needs)
     returns
-    add-k
-    loop-less
+    (λ c. search needs)
+    (λ c. search needs)
     loop-again
     returns-2)

@@ -7,25 +7,13 @@ use Rattle.book.proofs.Good.{good-closed, good-open}
 use Rattle.book.proofs.rules.block_right.Statement.{statement}
 use Rattle.book.proofs.rules.block_right.Tie as tie
 
-number-between-requires : tie.Need-number-between-requires
-number-between-requires c κs = search needs
-
-is-empty-requires : tie.Need-is-empty-requires
-is-empty-requires c κs = search needs
-
 returns : tie.Need-returns
 returns c = c .is-empty .ensures ∙ sym (good-closed _ (passed (c .before .before .number-between .ensures) (c .before .if1 .taken)))
-
-head-right-requires : tie.Need-head-right-requires
-head-right-requires c κs = search needs
 
 returns-2 : tie.Need-returns-2
 returns-2 c =
     sym (good-open _ (failed (c .before .before .before .number-between .ensures) (c .before .before .if1 .left))
     ∙ first-out _ _ (taken (c .before .head-right .ensures) (c .if2 .taken)))
-
-in-bounds-requires : tie.Need-in-bounds-requires
-in-bounds-requires c κs = search needs
 
 returns-3 : tie.Need-returns-3
 returns-3 c =
@@ -37,10 +25,10 @@ pub block-right-spec : {M : Type 1} → statement M
 block-right-spec =
     tie.close
     (tie.spec
-    number-between-requires
-    is-empty-requires
+    (λ c κs. search needs)
+    (λ c κs. search needs)
     returns
-    head-right-requires
+    (λ c κs. search needs)
     returns-2
-    in-bounds-requires
+    (λ c κs. search needs)
     returns-3)

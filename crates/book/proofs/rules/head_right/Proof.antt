@@ -8,50 +8,29 @@ use Rattle.book.specs.Rules.{headMarks}
 use Rattle.book.proofs.rules.head_right.Statement.{statement}
 use Rattle.book.proofs.rules.head_right.Tie as tie
 
-number-between-requires : tie.Need-number-between-requires
-number-between-requires c κs = search needs
-
 returns : tie.Need-returns
 unfolding headMarks
 returns c = sym (all-out-at _ 0 (taken (c .before .number-between .ensures) (c .if1 .taken)))
-
-number-between-requires-2 : tie.Need-number-between-requires-2
-number-between-requires-2 c κs = search needs
 
 returns-2 : tie.Need-returns-2
 unfolding headMarks
 returns-2 c = sym (all-out-at _ 1 (taken (c .before .number-between2 .ensures) (c .if2 .taken)))
 
-number-between-requires-3 : tie.Need-number-between-requires-3
-number-between-requires-3 c κs = search needs
-
 returns-3 : tie.Need-returns-3
 unfolding headMarks
 returns-3 c = sym (all-out-at _ 2 (taken (c .before .number-between3 .ensures) (c .if3 .taken)))
-
-number-between-requires-4 : tie.Need-number-between-requires-4
-number-between-requires-4 c κs = search needs
 
 returns-4 : tie.Need-returns-4
 unfolding headMarks
 returns-4 c = sym (all-out-at _ 3 (taken (c .before .number-between4 .ensures) (c .if4 .taken)))
 
-number-between-requires-5 : tie.Need-number-between-requires-5
-number-between-requires-5 c κs = search needs
-
 returns-5 : tie.Need-returns-5
 unfolding headMarks
 returns-5 c = sym (all-out-at _ 4 (taken (c .before .number-between5 .ensures) (c .if5 .taken)))
 
-number-between-requires-6 : tie.Need-number-between-requires-6
-number-between-requires-6 c κs = search needs
-
 returns-6 : tie.Need-returns-6
 unfolding headMarks
 returns-6 c = sym (all-out-at _ 5 (taken (c .before .number-between6 .ensures) (c .if6 .taken)))
-
-number-between-requires-7 : tie.Need-number-between-requires-7
-number-between-requires-7 c κs = search needs
 
 returns-7 : tie.Need-returns-7
 unfolding headMarks
@@ -74,17 +53,17 @@ pub head-right-spec : {M : Type 1} → statement M
 head-right-spec =
     tie.close
     (tie.spec
-    number-between-requires
+    (λ c κs. search needs)
     returns
-    number-between-requires-2
+    (λ c κs. search needs)
     returns-2
-    number-between-requires-3
+    (λ c κs. search needs)
     returns-3
-    number-between-requires-4
+    (λ c κs. search needs)
     returns-4
-    number-between-requires-5
+    (λ c κs. search needs)
     returns-5
-    number-between-requires-6
+    (λ c κs. search needs)
     returns-6
-    number-between-requires-7
+    (λ c κs. search needs)
     returns-7)

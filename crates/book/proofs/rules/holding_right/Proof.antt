@@ -10,27 +10,9 @@ use Rattle.whole.proofs.Parts.{to-end}
 use Rattle.book.proofs.rules.holding_right.Statement.{statement}
 use Rattle.book.proofs.rules.holding_right.Tie as tie
 
-sub-number-between : tie.Need-sub-number-between
-sub-number-between c = search needs
-
-number-between-requires : tie.Need-number-between-requires
-number-between-requires c κs = search needs
-
 returns : tie.Need-returns
 unfolding holdingRight
 returns c = sym (first-out _ _ (taken (c .before .number-between .ensures) (c .if1 .taken)))
-
-sub-all-between : tie.Need-sub-all-between
-sub-all-between c = search needs
-
-part-all-between-start : tie.Need-part-all-between-start
-part-all-between-start c = search needs
-
-part-all-between-end : tie.Need-part-all-between-end
-part-all-between-end c = search needs
-
-all-between-requires : tie.Need-all-between-requires
-all-between-requires c κs = search needs
 
 returns-2 : tie.Need-returns-2
 unfolding holdingRight
@@ -44,11 +26,11 @@ pub holding-right-spec : {M : Type 1} → statement M
 holding-right-spec =
     tie.close
     (tie.spec
-    sub-number-between
-    number-between-requires
+    (λ c. search needs)
+    (λ c κs. search needs)
     returns
-    sub-all-between
-    part-all-between-start
-    part-all-between-end
-    all-between-requires
+    (λ c. search needs)
+    (λ c. search needs)
+    (λ c. search needs)
+    (λ c κs. search needs)
     returns-2)

@@ -22,27 +22,6 @@ loop-holds : tie.Need-loop-holds Inv-loop μ-loop
 unfolding holdingsRight
 loop-holds c = (c .pre, omega arith, refl)
 
-mul-at : tie.Need-mul-at Inv-loop μ-loop
-mul-at c = search needs
-
-add-at : tie.Need-add-at Inv-loop μ-loop
-add-at c = search needs
-
-add-holding-right : tie.Need-add-holding-right Inv-loop μ-loop
-add-holding-right c = search needs
-
-mul-holding-right : tie.Need-mul-holding-right Inv-loop μ-loop
-mul-holding-right c = search needs
-
-sub-holding-right : tie.Need-sub-holding-right Inv-loop μ-loop
-sub-holding-right c = search needs
-
-part-holding-right-start : tie.Need-part-holding-right-start Inv-loop μ-loop
-part-holding-right-start c = search needs
-
-part-holding-right-end : tie.Need-part-holding-right-end Inv-loop μ-loop
-part-holding-right-end c = search needs
-
 holding-right-requires : tie.Need-holding-right-requires Inv-loop μ-loop
 holding-right-requires c κs = lent-length _ (c .before .before .before .pre) (c .before .before .loop .a) (omega arith)
 
@@ -50,12 +29,6 @@ returns : tie.Need-returns Inv-loop μ-loop
 returns c =
     let l = c .before .before .before .before .loop in
     sym (holdings-out _ 16 (l .a) (omega arith) (ap holdingRight (sym (lent-holding _ (l .a))) ∙ taken (c .before .holding-right .ensures) (c .if1 .taken)))
-
-add-a : tie.Need-add-a Inv-loop μ-loop
-add-a c = search needs
-
-loop-less : tie.Need-loop-less Inv-loop μ-loop
-loop-less c = search needs
 
 loop-again : tie.Need-loop-again Inv-loop μ-loop
 loop-again c =
@@ -72,16 +45,16 @@ holdings-right-spec =
     Inv-loop
     μ-loop
     loop-holds
-    mul-at
-    add-at
-    add-holding-right
-    mul-holding-right
-    sub-holding-right
-    part-holding-right-start
-    part-holding-right-end
+    (λ c. search needs)
+    (λ c. search needs)
+    (λ c. search needs)
+    (λ c. search needs)
+    (λ c. search needs)
+    (λ c. search needs)
+    (λ c. search needs)
     holding-right-requires
     returns
-    add-a
-    loop-less
+    (λ c. search needs)
+    (λ c. search needs)
     loop-again
     returns-2)

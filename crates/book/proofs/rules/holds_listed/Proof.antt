@@ -23,45 +23,12 @@ loop-holds : tie.Need-loop-holds Inv-loop μ-loop
 unfolding holdsListed
 loop-holds c = (c .pre, omega arith, refl)
 
-mul-at : tie.Need-mul-at Inv-loop μ-loop
-mul-at c = search needs
-
-add-at : tie.Need-add-at Inv-loop μ-loop
-add-at c = search needs
-
-is-listed-requires : tie.Need-is-listed-requires Inv-loop μ-loop
-is-listed-requires c κs = search needs
-
-add-is-empty : tie.Need-add-is-empty Inv-loop μ-loop
-add-is-empty c = search needs
-
-mul-is-empty : tie.Need-mul-is-empty Inv-loop μ-loop
-mul-is-empty c = search needs
-
-sub-is-empty : tie.Need-sub-is-empty Inv-loop μ-loop
-sub-is-empty c = search needs
-
-part-is-empty-start : tie.Need-part-is-empty-start Inv-loop μ-loop
-part-is-empty-start c = search needs
-
-part-is-empty-end : tie.Need-part-is-empty-end Inv-loop μ-loop
-part-is-empty-end c = search needs
-
-is-empty-requires : tie.Need-is-empty-requires Inv-loop μ-loop
-is-empty-requires c κs = search needs
-
 returns : tie.Need-returns Inv-loop μ-loop
 returns c =
     let u = c .before .before .before in
     let l = u .before .before .before .loop in
     sym (listed-out _ _ 16 (l .a) (omega arith) (taken (u .before .is-listed .ensures) (u .if1 .taken))
     (ap allZero (sym (lent-holding _ (l .a))) ∙ taken (c .before .is-empty .ensures) (c .if2 .taken)))
-
-add-a : tie.Need-add-a Inv-loop μ-loop
-add-a c = search needs
-
-loop-less : tie.Need-loop-less Inv-loop μ-loop
-loop-less c = search needs
 
 loop-again : tie.Need-loop-again Inv-loop μ-loop
 loop-again c =
@@ -84,17 +51,17 @@ holds-listed-spec =
     Inv-loop
     μ-loop
     loop-holds
-    mul-at
-    add-at
-    is-listed-requires
-    add-is-empty
-    mul-is-empty
-    sub-is-empty
-    part-is-empty-start
-    part-is-empty-end
-    is-empty-requires
+    (λ c. search needs)
+    (λ c. search needs)
+    (λ c κs. search needs)
+    (λ c. search needs)
+    (λ c. search needs)
+    (λ c. search needs)
+    (λ c. search needs)
+    (λ c. search needs)
+    (λ c κs. search needs)
     returns
-    add-a
-    loop-less
+    (λ c. search needs)
+    (λ c. search needs)
     loop-again
     returns-2)

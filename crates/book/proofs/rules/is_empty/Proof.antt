@@ -4,12 +4,9 @@ use Rattle.book.specs.Rules.{allZero}
 use Rattle.book.proofs.rules.is_empty.Statement.{statement}
 use Rattle.book.proofs.rules.is_empty.Tie as tie
 
-all-between-requires : tie.Need-all-between-requires
-all-between-requires c κs = search needs
-
 returns : tie.Need-returns
 unfolding allZero
 returns c = c .all-between .ensures
 
 pub is-empty-spec : {M : Type 1} → statement M
-is-empty-spec = tie.close (tie.spec all-between-requires returns)
+is-empty-spec = tie.close (tie.spec (λ c κs. search needs) returns)

@@ -4,14 +4,8 @@ use Rattle.engine.proofs.Parameters.{codes}
 use Rattle.engine.proofs.gate.block_code.Statement.{statement}
 use Rattle.engine.proofs.gate.block_code.Tie as tie
 
-block-right-requires : tie.Need-block-right-requires
-block-right-requires c κs = search needs
-
 returns : tie.Need-returns
 returns c = search codes
-
-number-between-requires : tie.Need-number-between-requires
-number-between-requires c κs = search needs
 
 returns-2 : tie.Need-returns-2
 returns-2 c = search codes
@@ -21,4 +15,4 @@ returns-3 c = search codes
 
 pub block-code-spec : {M : Type 1} → statement M
 block-code-spec =
-    tie.close (tie.spec block-right-requires returns number-between-requires returns-2 returns-3)
+    tie.close (tie.spec (λ c κs. search needs) returns (λ c κs. search needs) returns-2 returns-3)

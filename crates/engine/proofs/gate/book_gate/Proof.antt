@@ -7,9 +7,6 @@ use Rattle.engine.proofs.gate.book_gate.Tie as tie
 returns : tie.Need-returns
 returns c = search codes
 
-lies-between-requires : tie.Need-lies-between-requires
-lies-between-requires c κs = search needs
-
 returns-2 : tie.Need-returns-2
 returns-2 c = search codes
 
@@ -17,4 +14,4 @@ returns-3 : tie.Need-returns-3
 returns-3 c = search codes
 
 pub book-gate-spec : {M : Type 1} → statement M
-book-gate-spec = tie.close (tie.spec returns lies-between-requires returns-2 returns-3)
+book-gate-spec = tie.close (tie.spec returns (λ c κs. search needs) returns-2 returns-3)

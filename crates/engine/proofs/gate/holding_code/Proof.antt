@@ -4,20 +4,11 @@ use Rattle.engine.proofs.Parameters.{codes}
 use Rattle.engine.proofs.gate.holding_code.Statement.{statement}
 use Rattle.engine.proofs.gate.holding_code.Tie as tie
 
-block-right-requires : tie.Need-block-right-requires
-block-right-requires c κs = search needs
-
 returns : tie.Need-returns
 returns c = search codes
 
-holds-listed-requires : tie.Need-holds-listed-requires
-holds-listed-requires c κs = search needs
-
 returns-2 : tie.Need-returns-2
 returns-2 c = search codes
-
-number-between-requires : tie.Need-number-between-requires
-number-between-requires c κs = search needs
 
 returns-3 : tie.Need-returns-3
 returns-3 c = search codes
@@ -29,10 +20,10 @@ pub holding-code-spec : {M : Type 1} → statement M
 holding-code-spec =
     tie.close
     (tie.spec
-    block-right-requires
+    (λ c κs. search needs)
     returns
-    holds-listed-requires
+    (λ c κs. search needs)
     returns-2
-    number-between-requires
+    (λ c κs. search needs)
     returns-3
     returns-4)

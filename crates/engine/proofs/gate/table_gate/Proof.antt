@@ -17,16 +17,10 @@ code-is c = ap (λ (r : Checked). r .code) (c .check-tables .ensures)
 returns : tie.Need-returns
 returns c = search codes
 
-check-tables-requires : tie.Need-check-tables-requires
-check-tables-requires c κs = search needs
-
 returns-2 : tie.Need-returns-2
 returns-2 c = let a = c .before .before .before .args in
     code-is (c .before)
     ∙ tables-refused (a .book .now) _ _ _ (a .account) (c .before .before .if1 .left) (λ e. c .if2 .taken (code-is (c .before) ∙ e))
-
-lies-between-requires : tie.Need-lies-between-requires
-lies-between-requires c κs = search needs
 
 returns-3 : tie.Need-returns-3
 returns-3 c = let k = c .before .before .before in let a = k .before .before .args in
@@ -39,4 +33,4 @@ returns-4 c = let k = c .before .before .before in let a = k .before .before .ar
 pub table-gate-spec : {M : Type 1} → statement M
 table-gate-spec =
     tie.close
-    (tie.spec returns check-tables-requires returns-2 lies-between-requires returns-3 returns-4)
+    (tie.spec returns (λ c κs. search needs) returns-2 (λ c κs. search needs) returns-3 returns-4)

@@ -59,9 +59,6 @@ move-collateral-requires : tie.Need-move-collateral-requires
 move-collateral-requires c κs = let s = c .before in
     (s .pre .0, good-in-bounds _ (s .pre .0) (s .pre .1), s .pre .4, amount-within s)
 
-same-length : tie.Need-same-length
-same-length c = search needs
-
 returns : tie.Need-returns
 unfolding moveCode
 returns c = let k = c .before .before in (stops (_ ∷ []) (_ ∷ []) (code-is k) (c .if1 .taken), left-is k)
@@ -74,9 +71,6 @@ deposit c = let s = c .before .before .before .before .before in
 withdrawal : (c : tie.Else2) → ltZ (c .before .before .before .before .before .args .amount) (pos 0) ≡ true
 withdrawal c = let s = c .before .before .before .before .before in
     negative (s .args .amount) ∙ ap not (ap (leZ (pos 0)) (sym (toZ-ofZ (s .fits .amount))) ∙ c .if2 .left)
-
-same-length-2 : tie.Need-same-length-2
-same-length-2 c = search needs
 
 returns-2 : tie.Need-returns-2
 returns-2 c = let e = c .before in
@@ -101,9 +95,6 @@ take-back-move-requires : tie.Need-take-back-move-requires
 take-back-move-requires c κs = let e = c .before .before .before .before .before .before .before in let s = e .before .before .before .before in
     (ap length (booked e) ∙ moved-length (s .args .block .now) (s .args .asset) (s .args .amount) ∙ s .pre .0, ap inBounds (booked e) ∙ in-bounds e, s .pre .4, amount-within s)
 
-same-length-3 : tie.Need-same-length-3
-same-length-3 c = search needs
-
 returns-3 : tie.Need-returns-3
 returns-3 c = let k = c .before .before .before .before in let w = k .before .before .before .before in let s = w .before .before .before .before .before in let a = s .args in (
   code (miss (not-nine (w .before)) (hit (both _ _ (withdrawal w) (ap (λ (z : ℤ). ltZ z (pos 0)) (sym (limit-is k)) ∙ c .before .before .before .if3 .taken)))),
@@ -111,9 +102,6 @@ returns-3 c = let k = c .before .before .before .before in let w = k .before .be
       ∙ ap (λ (b : List ℤ). moved b (a .asset) (negℤ (back (a .amount)))) (booked (w .before)) ∙ ap (λ (z : ℤ). moved (after s) (a .asset) (negℤ z)) (toZ-ofZ (s .fits .amount))
       ∙ moved-back (a .block .now) (a .asset) (a .amount) (s .pre .4) (s .pre .0) ∙ kept 10 _ _ (λ z. omega arith),
 )
-
-same-length-4 : tie.Need-same-length-4
-same-length-4 c = search needs
 
 returns-4 : tie.Need-returns-4
 returns-4 c = let k = c .before in let w = k .before .before .before .before in let a = w .before .before .before .before .before .args in
@@ -124,13 +112,13 @@ judge-move-spec =
     tie.close
     (tie.spec
     move-collateral-requires
-    same-length
+    (λ c. search needs)
     returns
-    same-length-2
+    (λ c. search needs)
     returns-2
     block-figures-requires
     take-back-move-requires
-    same-length-3
+    (λ c. search needs)
     returns-3
-    same-length-4
+    (λ c. search needs)
     returns-4)

@@ -36,12 +36,6 @@ passed c = let a = c .before .before .before .args in table-passed (a .book .now
 placed : (c : tie.After-place) → (c .place .result ≡ natAbs (c .before .before .before .before .args .account)) × (c .place .result < 16)
 placed c = (c .place .ensures .0 ∙ ap natAbs (toZ-ofZ (c .before .before .before .before .fits .account)), c .place .ensures .1)
 
-table-gate-requires : tie.Need-table-gate-requires
-table-gate-requires c κs = search needs
-
-same-length : tie.Need-same-length
-same-length c = search needs
-
 returns : tie.Need-returns
 unfolding moveOutcome
 returns c = let s = c .before .before .before in
@@ -50,32 +44,11 @@ returns c = let s = c .before .before .before in
 place-requires : tie.Need-place-requires
 place-requires c κs = rw (toZ-ofZ (c .before .before .before .fits .account)) (passed c .account-right)
 
-mul-move-on : tie.Need-mul-move-on
-mul-move-on c = search needs
-
-add-move-on : tie.Need-add-move-on
-add-move-on c = search needs
-
-mul-move-on-2 : tie.Need-mul-move-on-2
-mul-move-on-2 c = search needs
-
-mul-move-on-3 : tie.Need-mul-move-on-3
-mul-move-on-3 c = search needs
-
-sub-move-on : tie.Need-sub-move-on
-sub-move-on c = search needs
-
-part-move-on-start : tie.Need-part-move-on-start
-part-move-on-start c = search needs
-
 part-move-on-end : tie.Need-part-move-on-end
 part-move-on-end c = let l = passed (c .before) .long in search needs
 
 move-on-requires : tie.Need-move-on-requires
 move-on-requires c κs = let p = c .before in (lent-length _ _ (passed (p .before) .long) (p .place .ensures .1), passed (p .before) .tables)
-
-same-length-2 : tie.Need-same-length-2
-same-length-2 c = search needs
 
 returns-2 : tie.Need-returns-2
 unfolding moveOutcome
@@ -87,17 +60,17 @@ pub move-collateral-spec : {M : Type 1} → statement M
 move-collateral-spec =
     tie.close
     (tie.spec
-    table-gate-requires
-    same-length
+    (λ c κs. search needs)
+    (λ c. search needs)
     returns
     place-requires
-    mul-move-on
-    add-move-on
-    mul-move-on-2
-    mul-move-on-3
-    sub-move-on
-    part-move-on-start
+    (λ c. search needs)
+    (λ c. search needs)
+    (λ c. search needs)
+    (λ c. search needs)
+    (λ c. search needs)
+    (λ c. search needs)
     part-move-on-end
     move-on-requires
-    same-length-2
+    (λ c. search needs)
     returns-2)

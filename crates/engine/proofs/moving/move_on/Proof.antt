@@ -35,21 +35,9 @@ numbers-is c = let f = c .before .before .before .before .fits in simp (toZ-ofZ 
 numbers-passed : (c : tie.Else2) → firstCode (of-numbers (c .before .before .before .before .before)) ≡ 0
 numbers-passed c = sym (numbers-is (c .before)) ∙ c .if2 .left
 
-holding-code-requires : tie.Need-holding-code-requires
-holding-code-requires c κs = search needs
-
-same-length : tie.Need-same-length
-same-length c = search needs
-
 returns : tie.Need-returns
 returns c = let s = c .before .before .before in
     (stops (of-block s) _ (c .before .holding-code .ensures) (c .if1 .taken), kept _ _ _ (c .if1 .taken))
-
-move-numbers-requires : tie.Need-move-numbers-requires
-move-numbers-requires c κs = search needs
-
-same-length-2 : tie.Need-same-length-2
-same-length-2 c = search needs
 
 returns-2 : tie.Need-returns-2
 returns-2 c = let s = c .before .before .before .before .before in (
@@ -71,9 +59,6 @@ judge-move-requires c κs = let e = c .before .before .before in let s = e .befo
   subst (λ (z : ℤ). z within 100000000000000) (sym (toZ-ofZ (s .fits .amount))) (move-amount (a .clearing .now) (a .asset) (a .amount) (numbers-passed (c .before))),
 )
 
-same-length-3 : tie.Need-same-length-3
-same-length-3 c = search needs
-
 returns-3 : tie.Need-returns-3
 returns-3 c = let e = c .before .before .before in let s = e .before .before .before .before .before in let f = s .fits in
     let r = simp (toZ-ofZ (f .asset), toZ-ofZ (f .amount)) at (c .before .judge-move .ensures) in
@@ -83,13 +68,13 @@ pub move-on-spec : {M : Type 1} → statement M
 move-on-spec =
     tie.close
     (tie.spec
-    holding-code-requires
-    same-length
+    (λ c κs. search needs)
+    (λ c. search needs)
     returns
-    move-numbers-requires
-    same-length-2
+    (λ c κs. search needs)
+    (λ c. search needs)
     returns-2
     cast-judge-move
     judge-move-requires
-    same-length-3
+    (λ c. search needs)
     returns-3)

@@ -36,12 +36,6 @@ passed c = let a = c .before .before .before .args in book-passed (a .book .now)
 placed : (c : tie.After-place) → (c .place .result ≡ natAbs (c .before .before .before .before .args .account)) × (c .place .result < 16)
 placed c = (c .place .ensures .0 ∙ ap natAbs (toZ-ofZ (c .before .before .before .before .fits .account)), c .place .ensures .1)
 
-book-gate-requires : tie.Need-book-gate-requires
-book-gate-requires c κs = search needs
-
-same-length : tie.Need-same-length
-same-length c = search needs
-
 returns : tie.Need-returns
 unfolding openOutcome
 returns c = let s = c .before .before .before in
@@ -50,32 +44,8 @@ returns c = let s = c .before .before .before in
 place-requires : tie.Need-place-requires
 place-requires c κs = rw (toZ-ofZ (c .before .before .before .fits .account)) (passed c .account-right)
 
-mul-open-on : tie.Need-mul-open-on
-mul-open-on c = search needs
-
-add-open-on : tie.Need-add-open-on
-add-open-on c = search needs
-
-mul-open-on-2 : tie.Need-mul-open-on-2
-mul-open-on-2 c = search needs
-
-mul-open-on-3 : tie.Need-mul-open-on-3
-mul-open-on-3 c = search needs
-
-sub-open-on : tie.Need-sub-open-on
-sub-open-on c = search needs
-
-part-open-on-start : tie.Need-part-open-on-start
-part-open-on-start c = search needs
-
 part-open-on-end : tie.Need-part-open-on-end
 part-open-on-end c = let l = passed (c .before) .long in search needs
-
-open-on-requires : tie.Need-open-on-requires
-open-on-requires c κs = search needs
-
-same-length-2 : tie.Need-same-length-2
-same-length-2 c = search needs
 
 returns-2 : tie.Need-returns-2
 unfolding openOutcome
@@ -87,17 +57,17 @@ pub open-spec : {M : Type 1} → statement M
 open-spec =
     tie.close
     (tie.spec
-    book-gate-requires
-    same-length
+    (λ c κs. search needs)
+    (λ c. search needs)
     returns
     place-requires
-    mul-open-on
-    add-open-on
-    mul-open-on-2
-    mul-open-on-3
-    sub-open-on
-    part-open-on-start
+    (λ c. search needs)
+    (λ c. search needs)
+    (λ c. search needs)
+    (λ c. search needs)
+    (λ c. search needs)
+    (λ c. search needs)
     part-open-on-end
-    open-on-requires
-    same-length-2
+    (λ c κs. search needs)
+    (λ c. search needs)
     returns-2)

@@ -9,38 +9,14 @@ use Rattle.engine.proofs.Parameters.{codes}
 use Rattle.engine.proofs.opening.open_on.Statement.{statement}
 use Rattle.engine.proofs.opening.open_on.Tie as tie
 
-number-between-requires : tie.Need-number-between-requires
-number-between-requires c κs = search needs
-
-same-length : tie.Need-same-length
-same-length c = search needs
-
 returns : tie.Need-returns
 returns c = (code (miss (search codes) (hit (search codes))), kept 5 _ _ (λ e. omega arith))
-
-is-empty-requires : tie.Need-is-empty-requires
-is-empty-requires c κs = search needs
-
-same-length-2 : tie.Need-same-length-2
-same-length-2 c = search needs
 
 returns-2 : tie.Need-returns-2
 returns-2 c = (code (hit (search codes)), kept 6 _ _ (λ e. omega arith))
 
-lies-between-requires : tie.Need-lies-between-requires
-lies-between-requires c κs = search needs
-
-same-length-3 : tie.Need-same-length-3
-same-length-3 c = search needs
-
 returns-3 : tie.Need-returns-3
 returns-3 c = (code (miss (search codes) (miss (search codes) (hit (search codes)))), kept 7 _ _ (λ e. omega arith))
-
-open-requires : tie.Need-open-requires
-open-requires c κs = search needs
-
-same-length-4 : tie.Need-same-length-4
-same-length-4 c = search needs
 
 returns-4 : tie.Need-returns-4
 returns-4 c = let s = c .before .before .before .before .before .before .before .before .before .before .before in (
@@ -52,15 +28,15 @@ pub open-on-spec : {M : Type 1} → statement M
 open-on-spec =
     tie.close
     (tie.spec
-    number-between-requires
-    same-length
+    (λ c κs. search needs)
+    (λ c. search needs)
     returns
-    is-empty-requires
-    same-length-2
+    (λ c κs. search needs)
+    (λ c. search needs)
     returns-2
-    lies-between-requires
-    same-length-3
+    (λ c κs. search needs)
+    (λ c. search needs)
     returns-3
-    open-requires
-    same-length-4
+    (λ c κs. search needs)
+    (λ c. search needs)
     returns-4)

@@ -36,12 +36,6 @@ passed c = let a = c .before .before .before .args in book-passed (a .book .now)
 placed : (c : tie.After-place) → (c .place .result ≡ natAbs (c .before .before .before .before .args .account)) × (c .place .result < 16)
 placed c = simp (toZ-ofZ (c .before .before .before .before .fits .account)) at (c .place .ensures)
 
-book-gate-requires : tie.Need-book-gate-requires
-book-gate-requires c κs = search needs
-
-same-length : tie.Need-same-length
-same-length c = search needs
-
 returns : tie.Need-returns
 unfolding rollOutcome
 returns c = let s = c .before .before .before in
@@ -50,32 +44,8 @@ returns c = let s = c .before .before .before in
 place-requires : tie.Need-place-requires
 place-requires c κs = rw (toZ-ofZ (c .before .before .before .fits .account)) (passed c .account-right)
 
-mul-roll-on : tie.Need-mul-roll-on
-mul-roll-on c = search needs
-
-add-roll-on : tie.Need-add-roll-on
-add-roll-on c = search needs
-
-mul-roll-on-2 : tie.Need-mul-roll-on-2
-mul-roll-on-2 c = search needs
-
-mul-roll-on-3 : tie.Need-mul-roll-on-3
-mul-roll-on-3 c = search needs
-
-sub-roll-on : tie.Need-sub-roll-on
-sub-roll-on c = search needs
-
-part-roll-on-start : tie.Need-part-roll-on-start
-part-roll-on-start c = search needs
-
 part-roll-on-end : tie.Need-part-roll-on-end
 part-roll-on-end c = let l = passed (c .before) .long in search needs
-
-roll-on-requires : tie.Need-roll-on-requires
-roll-on-requires c κs = search needs
-
-same-length-2 : tie.Need-same-length-2
-same-length-2 c = search needs
 
 returns-2 : tie.Need-returns-2
 unfolding rollOutcome
@@ -87,17 +57,17 @@ pub roll-spec : {M : Type 1} → statement M
 roll-spec =
     tie.close
     (tie.spec
-    book-gate-requires
-    same-length
+    (λ c κs. search needs)
+    (λ c. search needs)
     returns
     place-requires
-    mul-roll-on
-    add-roll-on
-    mul-roll-on-2
-    mul-roll-on-3
-    sub-roll-on
-    part-roll-on-start
+    (λ c. search needs)
+    (λ c. search needs)
+    (λ c. search needs)
+    (λ c. search needs)
+    (λ c. search needs)
+    (λ c. search needs)
     part-roll-on-end
-    roll-on-requires
-    same-length-2
+    (λ c κs. search needs)
+    (λ c. search needs)
     returns-2)

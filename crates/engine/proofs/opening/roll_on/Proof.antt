@@ -26,21 +26,12 @@ passed c = sym (c .before .block-code .ensures) ∙ c .if1 .left
 good : (c : tie.Else1) → goodBlock (c .before .before .before .args .block .now) ≡ true
 good c = not-false _ (none-holds (of-block (c .before .before .before)) tt (passed c) 0)
 
-block-code-requires : tie.Need-block-code-requires
-block-code-requires c κs = search needs
-
-same-length : tie.Need-same-length
-same-length c = search needs
-
 returns : tie.Need-returns
 returns c = let s = c .before .before .before in
     (stops (of-block s) (of-roll s) (c .before .block-code .ensures) (c .if1 .taken), kept _ _ _ (c .if1 .taken))
 
 roll-requires : tie.Need-roll-requires
 roll-requires c κs = let s = c .before .before .before .before in (s .pre, good-in-bounds _ (s .pre) (good (c .before)))
-
-same-length-2 : tie.Need-same-length-2
-same-length-2 c = search needs
 
 returns-2 : tie.Need-returns-2
 unfolding rollCode
@@ -50,4 +41,4 @@ returns-2 c = let e = c .before .before .before in let s = e .before .before .be
 pub roll-on-spec : {M : Type 1} → statement M
 roll-on-spec =
     tie.close
-    (tie.spec block-code-requires same-length returns roll-requires same-length-2 returns-2)
+    (tie.spec (λ c κs. search needs) (λ c. search needs) returns roll-requires (λ c. search needs) returns-2)

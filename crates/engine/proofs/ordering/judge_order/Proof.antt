@@ -42,9 +42,6 @@ booked c = let a = c .before .before .before .before .args in
 book-trade-requires : tie.Need-book-trade-requires
 book-trade-requires c κs = tradable (c .before)
 
-same-length : tie.Need-same-length
-same-length c = search needs
-
 returns : tie.Need-returns
 unfolding tradeCode
 returns c = let r = c .before .before .book-trade .ensures in (stops (_ ∷ []) (_ ∷ []) (r .0) (c .if1 .taken), r .1)
@@ -69,9 +66,6 @@ take-back-trade-requires : tie.Need-take-back-trade-requires
 take-back-trade-requires c κs = let e = c .before .before .before .before .before .before in let s = e .before .before .before .before in
     (ap length (booked e) ∙ traded-length (s .args .block .now) (s .args .t) ∙ s .pre .0, ap inBounds (booked e) ∙ in-bounds e, s .pre .4)
 
-same-length-2 : tie.Need-same-length-2
-same-length-2 c = search needs
-
 returns-2 : tie.Need-returns-2
 unfolding admitted
 returns-2 c = let k = c .before .before .before .before in let e = k .before .before .before .before in let s = e .before .before .before .before in (
@@ -79,9 +73,6 @@ returns-2 c = let k = c .before .before .before .before in let e = k .before .be
   c .before .take-back-trade .ensures ∙ ap (λ (b : List ℤ). untraded b (s .args .t)) (booked e) ∙ untraded-traded (s .args .block .now) (s .args .t) (s .pre .4) (s .pre .0)
       ∙ kept 10 _ _ (λ z. omega arith),
 )
-
-same-length-3 : tie.Need-same-length-3
-same-length-3 c = search needs
 
 returns-3 : tie.Need-returns-3
 unfolding admitted
@@ -93,11 +84,11 @@ judge-order-spec =
     tie.close
     (tie.spec
     book-trade-requires
-    same-length
+    (λ c. search needs)
     returns
     block-figures-requires
     take-back-trade-requires
-    same-length-2
+    (λ c. search needs)
     returns-2
-    same-length-3
+    (λ c. search needs)
     returns-3)

@@ -36,12 +36,6 @@ passed c = let a = c .before .before .before .args in table-passed (a .book .now
 placed : (c : tie.After-place) → (c .place .result ≡ natAbs (c .before .before .before .before .args .account)) × (c .place .result < 16)
 placed c = (c .place .ensures .0 ∙ ap natAbs (toZ-ofZ (c .before .before .before .before .fits .account)), c .place .ensures .1)
 
-table-gate-requires : tie.Need-table-gate-requires
-table-gate-requires c κs = search needs
-
-same-length : tie.Need-same-length
-same-length c = search needs
-
 returns : tie.Need-returns
 unfolding orderOutcome
 returns c = let s = c .before .before .before in
@@ -50,32 +44,11 @@ returns c = let s = c .before .before .before in
 place-requires : tie.Need-place-requires
 place-requires c κs = rw (toZ-ofZ (c .before .before .before .fits .account)) (passed c .account-right)
 
-mul-order-on : tie.Need-mul-order-on
-mul-order-on c = search needs
-
-add-order-on : tie.Need-add-order-on
-add-order-on c = search needs
-
-mul-order-on-2 : tie.Need-mul-order-on-2
-mul-order-on-2 c = search needs
-
-mul-order-on-3 : tie.Need-mul-order-on-3
-mul-order-on-3 c = search needs
-
-sub-order-on : tie.Need-sub-order-on
-sub-order-on c = search needs
-
-part-order-on-start : tie.Need-part-order-on-start
-part-order-on-start c = search needs
-
 part-order-on-end : tie.Need-part-order-on-end
 part-order-on-end c = let l = passed (c .before) .long in search needs
 
 order-on-requires : tie.Need-order-on-requires
 order-on-requires c κs = let p = c .before in (lent-length _ _ (passed (p .before) .long) (p .place .ensures .1), passed (p .before) .tables)
-
-same-length-2 : tie.Need-same-length-2
-same-length-2 c = search needs
 
 returns-2 : tie.Need-returns-2
 unfolding orderOutcome
@@ -87,17 +60,17 @@ pub order-spec : {M : Type 1} → statement M
 order-spec =
     tie.close
     (tie.spec
-    table-gate-requires
-    same-length
+    (λ c κs. search needs)
+    (λ c. search needs)
     returns
     place-requires
-    mul-order-on
-    add-order-on
-    mul-order-on-2
-    mul-order-on-3
-    sub-order-on
-    part-order-on-start
+    (λ c. search needs)
+    (λ c. search needs)
+    (λ c. search needs)
+    (λ c. search needs)
+    (λ c. search needs)
+    (λ c. search needs)
     part-order-on-end
     order-on-requires
-    same-length-2
+    (λ c. search needs)
     returns-2)

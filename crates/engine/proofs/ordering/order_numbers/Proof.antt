@@ -11,32 +11,17 @@ use Rattle.engine.proofs.ordering.order_numbers.Tie as tie
 asset-heard : (c : tie.After-asset-right) → c .asset-right .result ≡ assetRight (c .before .args .clearing .now) (c .before .args .asset)
 asset-heard c = c .asset-right .ensures ∙ ap (assetRight (c .before .args .clearing .now)) (toZ-ofZ (c .before .fits .asset))
 
-asset-right-requires : tie.Need-asset-right-requires
-asset-right-requires c κs = search needs
-
 returns : tie.Need-returns
 returns c = let a = asset-heard (c .before) in code (hit (search codes))
-
-lies-between-requires : tie.Need-lies-between-requires
-lies-between-requires c κs = search needs
 
 returns-2 : tie.Need-returns-2
 returns-2 c = let a = asset-heard (c .before .before .before) in code (hit (search codes))
 
-lies-between-requires-2 : tie.Need-lies-between-requires-2
-lies-between-requires-2 c κs = search needs
-
 returns-3 : tie.Need-returns-3
 returns-3 c = let a = asset-heard (c .before .before .before .before .before) in code (hit (search codes))
 
-lies-between-requires-3 : tie.Need-lies-between-requires-3
-lies-between-requires-3 c κs = search needs
-
 returns-4 : tie.Need-returns-4
 returns-4 c = let a = asset-heard (c .before .before .before .before .before .before .before) in code (miss (search codes) (hit (search codes)))
-
-lies-between-requires-4 : tie.Need-lies-between-requires-4
-lies-between-requires-4 c κs = search needs
 
 returns-5 : tie.Need-returns-5
 returns-5 c = let a = asset-heard (c .before .before .before .before .before .before .before .before .before) in code (miss (search codes) (hit (search codes)))
@@ -48,14 +33,14 @@ pub order-numbers-spec : {M : Type 1} → statement M
 order-numbers-spec =
     tie.close
     (tie.spec
-    asset-right-requires
+    (λ c κs. search needs)
     returns
-    lies-between-requires
+    (λ c κs. search needs)
     returns-2
-    lies-between-requires-2
+    (λ c κs. search needs)
     returns-3
-    lies-between-requires-3
+    (λ c κs. search needs)
     returns-4
-    lies-between-requires-4
+    (λ c κs. search needs)
     returns-5
     returns-6)

@@ -52,21 +52,9 @@ numbers-is c = let f = c .before .before .before .before .fits in
 numbers-passed : (c : tie.Else2) → firstCode (of-numbers (c .before .before .before .before .before)) ≡ 0
 numbers-passed c = sym (numbers-is (c .before)) ∙ c .if2 .left
 
-holding-code-requires : tie.Need-holding-code-requires
-holding-code-requires c κs = search needs
-
-same-length : tie.Need-same-length
-same-length c = search needs
-
 returns : tie.Need-returns
 returns c = let s = c .before .before .before in
     (stops (of-block s) _ (c .before .holding-code .ensures) (c .if1 .taken), kept _ _ _ (c .if1 .taken))
-
-order-numbers-requires : tie.Need-order-numbers-requires
-order-numbers-requires c κs = search needs
-
-same-length-2 : tie.Need-same-length-2
-same-length-2 c = search needs
 
 returns-2 : tie.Need-returns-2
 returns-2 c = let s = c .before .before .before .before .before in (
@@ -95,9 +83,6 @@ judge-order-requires c κs = let e = c .before .before .before in let s = e .bef
   subst TradeRanges (sym (trade-is s)) (trade-ranges (a .clearing .now) (a .asset) (a .date) (a .side) (a .quantity) (a .money) (numbers-passed (c .before))),
 )
 
-same-length-3 : tie.Need-same-length-3
-same-length-3 c = search needs
-
 returns-3 : tie.Need-returns-3
 returns-3 c = let e = c .before .before .before in let s = e .before .before .before .before .before in let a = s .args in let r = c .before .judge-order in (
   follows (of-block s) (of-numbers s ++ of-trade s) tt (block-passed (e .before .before))
@@ -110,15 +95,15 @@ pub order-on-spec : {M : Type 1} → statement M
 order-on-spec =
     tie.close
     (tie.spec
-    holding-code-requires
-    same-length
+    (λ c κs. search needs)
+    (λ c. search needs)
     returns
-    order-numbers-requires
-    same-length-2
+    (λ c κs. search needs)
+    (λ c. search needs)
     returns-2
     cast-t16
     cast-t17
     cast-t18
     judge-order-requires
-    same-length-3
+    (λ c. search needs)
     returns-3)

@@ -31,12 +31,6 @@ passed c = let a = c .before .before .args in table-passed (a .book .now) (a .cl
 placed : (c : tie.After-place) → (c .place .result ≡ natAbs (c .before .before .before .args .account)) × (c .place .result < 16)
 placed c = (c .place .ensures .0 ∙ ap natAbs (toZ-ofZ (c .before .before .before .fits .account)), c .place .ensures .1)
 
-table-gate-requires : tie.Need-table-gate-requires
-table-gate-requires c κs = search needs
-
-refused-requires : tie.Need-refused-requires
-refused-requires c κs = search needs
-
 returns : tie.Need-returns
 unfolding reportOf
 returns c = let s = c .before .before .before in let a = s .args in
@@ -46,24 +40,6 @@ returns c = let s = c .before .before .before in let a = s .args in
 
 place-requires : tie.Need-place-requires
 place-requires c κs = rw (toZ-ofZ (c .before .before .fits .account)) (passed c .account-right)
-
-mul-report-on : tie.Need-mul-report-on
-mul-report-on c = search needs
-
-add-report-on : tie.Need-add-report-on
-add-report-on c = search needs
-
-mul-report-on-2 : tie.Need-mul-report-on-2
-mul-report-on-2 c = search needs
-
-mul-report-on-3 : tie.Need-mul-report-on-3
-mul-report-on-3 c = search needs
-
-sub-report-on : tie.Need-sub-report-on
-sub-report-on c = search needs
-
-part-report-on-start : tie.Need-part-report-on-start
-part-report-on-start c = search needs
 
 part-report-on-end : tie.Need-part-report-on-end
 part-report-on-end c = let l = passed (c .before) .long in search needs
@@ -81,16 +57,16 @@ pub report-spec : {M : Type 1} → statement M
 report-spec =
     tie.close
     (tie.spec
-    table-gate-requires
-    refused-requires
+    (λ c κs. search needs)
+    (λ c κs. search needs)
     returns
     place-requires
-    mul-report-on
-    add-report-on
-    mul-report-on-2
-    mul-report-on-3
-    sub-report-on
-    part-report-on-start
+    (λ c. search needs)
+    (λ c. search needs)
+    (λ c. search needs)
+    (λ c. search needs)
+    (λ c. search needs)
+    (λ c. search needs)
     part-report-on-end
     report-on-requires
     returns-2)

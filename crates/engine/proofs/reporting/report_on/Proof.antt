@@ -14,12 +14,6 @@ use Rattle.engine.proofs.reporting.report_on.Tie as tie
 passed : (c : tie.Else1) → let a = c .before .before .args in firstCode (holdingRefusals (a .block .now) (a .clearing .now)) ≡ 0
 passed c = sym (c .before .holding-code .ensures) ∙ c .if1 .left
 
-holding-code-requires : tie.Need-holding-code-requires
-holding-code-requires c κs = search needs
-
-refused-requires : tie.Need-refused-requires
-refused-requires c κs = search needs
-
 returns : tie.Need-returns
 unfolding blockReport
 returns c = let a = c .before .before .before .args in
@@ -37,4 +31,4 @@ returns-2 c = with-figures (passed (c .before)) (c .block-figures .ensures)
 pub report-on-spec : {M : Type 1} → statement M
 report-on-spec =
     tie.close
-    (tie.spec holding-code-requires refused-requires returns block-figures-requires returns-2)
+    (tie.spec (λ c κs. search needs) (λ c κs. search needs) returns block-figures-requires returns-2)

@@ -19,25 +19,10 @@ share-partial c = subst ShareRange (c .before .regime .given .1) (c .before .bef
 share-accepted : (c : tie.After-known-told2) → c .before .regime2 .given .0 .0 upto 10000
 share-accepted c = subst ShareRange (c .before .regime2 .given .1) (c .before .before .before .pre .0)
 
-enum-told : tie.Need-enum-told
-enum-told c = search needs
-
-enum-told-2 : tie.Need-enum-told-2
-enum-told-2 c = search needs
-
-lesser-requires : tie.Need-lesser-requires
-lesser-requires c κs = search needs
-
-enum-known-regime : tie.Need-enum-known-regime
-enum-known-regime c = search needs
-
 counted-of-requires : tie.Need-counted-of-requires
 counted-of-requires c κs =
     let s = c .before .before .before in
     rw (toZ-ofZ (share-partial c .fits), toZ-ofZ (s .fits .held), toZ-ofZ (s .fits .net)) (share-partial c, s .pre .1, s .pre .2)
-
-enum-known-regime-2 : tie.Need-enum-known-regime-2
-enum-known-regime-2 c = search needs
 
 counted-of-requires-2 : tie.Need-counted-of-requires-2
 counted-of-requires-2 c κs =
@@ -68,12 +53,12 @@ pub adjust-spec : {M : Type 1} → statement M
 adjust-spec =
     tie.close
     (tie.spec
-    enum-told
-    enum-told-2
-    lesser-requires
-    enum-known-regime
+    (λ c. search needs)
+    (λ c. search needs)
+    (λ c κs. search needs)
+    (λ c. search needs)
     counted-of-requires
-    enum-known-regime-2
+    (λ c. search needs)
     counted-of-requires-2
     returns
     returns-2

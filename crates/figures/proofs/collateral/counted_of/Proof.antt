@@ -47,9 +47,6 @@ ok c =
     let h = positive (c .before .before) in let e = free (c .before .before .before) in let f = some (c .before .before) in
     let p = c .before .share-of .ensures .1 in let l = least c in omega ints
 
-lesser-requires : tie.Need-lesser-requires
-lesser-requires c κs = search needs
-
 returns : tie.Need-returns
 returns c =
     let s = c .before .before in
@@ -61,9 +58,6 @@ share-of-requires c κs =
 
 sub-result : tie.Need-sub-result
 sub-result c = let h = positive (c .before) in let e = free (c .before .before) in let f = some (c .before) in omega ints
-
-lesser-requires-2 : tie.Need-lesser-requires-2
-lesser-requires-2 c κs = search needs
 
 add-result : tie.Need-add-result
 add-result c = need! (sum c) (ok c)
@@ -80,10 +74,10 @@ pub counted-of-spec : {M : Type 1} → statement M
 counted-of-spec =
     tie.close
     (tie.spec
-    lesser-requires
+    (λ c κs. search needs)
     returns
     share-of-requires
     sub-result
-    lesser-requires-2
+    (λ c κs. search needs)
     add-result
     returns-2)

@@ -17,18 +17,9 @@ below c = rw (toZ-ofZ (c .before .before .pre .pool-upto .fits)) at (c .if1 .tak
 whole : (c : tie.Else1) → ltZ (poolShare (now (c .before .before .args .row))) theWhole ≡ false
 whole c = rw (toZ-ofZ (c .before .before .pre .pool-upto .fits)) at (c .if1 .left)
 
-shared-slice-copy-out-if1 : tie.Need-shared-slice-copy-out-if1
-shared-slice-copy-out-if1 c = search needs
-
-shared-slice-copy-out-result : tie.Need-shared-slice-copy-out-result
-shared-slice-copy-out-result c = search needs
-
 returns : tie.Need-returns
 unfolding poolShareInForce
 returns c = let h = c .before .before .before .pre .pool-upto in rw (toZ-ofZ (h .fits), below (c .before)) (refl, h)
-
-shared-slice-copy-out-result-2 : tie.Need-shared-slice-copy-out-result-2
-shared-slice-copy-out-result-2 c = search needs
 
 returns-2 : tie.Need-returns-2
 unfolding poolShareInForce
@@ -38,8 +29,8 @@ pub pool-share-spec : {M : Type 1} → statement M
 pool-share-spec =
     tie.close
     (tie.spec
-    shared-slice-copy-out-if1
-    shared-slice-copy-out-result
+    (λ c. search needs)
+    (λ c. search needs)
     returns
-    shared-slice-copy-out-result-2
+    (λ c. search needs)
     returns-2)

@@ -31,25 +31,13 @@ is-partial c = passed (c .before .number-between3 .ensures) (c .if3 .taken)
 not-partial : (c : tie.Else3) → equal (coveredSales (now (c .before .before .before .before .before .before .before .args .row))) (pos 2) ≡ false
 not-partial c = failed (c .before .number-between3 .ensures) (c .if3 .left)
 
-number-between-requires : tie.Need-number-between-requires
-number-between-requires c κs = search needs
-
 returns : tie.Need-returns
 unfolding regimeOf
 returns c = (rw (is-special c) refl, tt)
 
-number-between-requires-2 : tie.Need-number-between-requires-2
-number-between-requires-2 c κs = search needs
-
 returns-2 : tie.Need-returns-2
 unfolding regimeOf
 returns-2 c = (rw (not-special (c .before .before), is-unrecorded c) refl, tt)
-
-share-in-force-requires : tie.Need-share-in-force-requires
-share-in-force-requires c κs = search needs
-
-number-between-requires-3 : tie.Need-number-between-requires-3
-number-between-requires-3 c κs = search needs
 
 returns-3 : tie.Need-returns-3
 unfolding regimeOf
@@ -67,11 +55,11 @@ pub regime-of-spec : {M : Type 1} → statement M
 regime-of-spec =
     tie.close
     (tie.spec
-    number-between-requires
+    (λ c κs. search needs)
     returns
-    number-between-requires-2
+    (λ c κs. search needs)
     returns-2
-    share-in-force-requires
-    number-between-requires-3
+    (λ c κs. search needs)
+    (λ c κs. search needs)
     returns-3
     returns-4)

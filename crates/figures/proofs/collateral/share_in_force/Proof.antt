@@ -16,15 +16,9 @@ is-special c = passed (c .before .number-between .ensures) (c .if1 .taken)
 not-special : (c : tie.Else1) → special (now (c .before .before .args .row)) ≡ false
 not-special c = failed (c .before .number-between .ensures) (c .if1 .left)
 
-number-between-requires : tie.Need-number-between-requires
-number-between-requires c κs = search needs
-
 returns : tie.Need-returns
 unfolding shareInForce
 returns c = (rw (is-special c) refl, search needs)
-
-shared-slice-copy-out-result : tie.Need-shared-slice-copy-out-result
-shared-slice-copy-out-result c = search needs
 
 returns-2 : tie.Need-returns-2
 unfolding shareInForce
@@ -32,17 +26,11 @@ returns-2 c =
     let h = c .before .before .before .before .pre .acceptance-upto in
     rw (toZ-ofZ (h .fits), not-special (c .before .before), eq-eqb _ 1 (c .before .if2 .taken)) (refl, h)
 
-pool-share-requires : tie.Need-pool-share-requires
-pool-share-requires c κs = search needs
-
 returns-3 : tie.Need-returns-3
 unfolding shareInForce
 returns-3 c =
     let h = c .pool-share .ensures in
     rw (toZ-ofZ (h .1 .fits), not-special (c .before .before .before), ne-eqb _ 1 (c .before .before .if2 .left), eq-eqb _ 2 (c .before .if3 .taken)) h
-
-shared-slice-copy-out-result-2 : tie.Need-shared-slice-copy-out-result-2
-shared-slice-copy-out-result-2 c = search needs
 
 returns-4 : tie.Need-returns-4
 unfolding shareInForce
@@ -54,11 +42,11 @@ pub share-in-force-spec : {M : Type 1} → statement M
 share-in-force-spec =
     tie.close
     (tie.spec
-    number-between-requires
+    (λ c κs. search needs)
     returns
-    shared-slice-copy-out-result
+    (λ c. search needs)
     returns-2
-    pool-share-requires
+    (λ c κs. search needs)
     returns-3
-    shared-slice-copy-out-result-2
+    (λ c. search needs)
     returns-4)

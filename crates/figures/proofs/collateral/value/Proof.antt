@@ -11,21 +11,6 @@ use Rattle.figures.proofs.collateral.value.Tie as tie
 negative : (c : tie.After-lesser) → c .lesser .result ≡ minℤ (pos 0) (c .before .before .before .args .c)
 negative c = rw (toZ-ofZ (c .before .before .before .fits .c)) at (c .lesser .ensures .0)
 
-enum-told : tie.Need-enum-told
-enum-told c = search needs
-
-enum-told-2 : tie.Need-enum-told-2
-enum-told-2 c = search needs
-
-enum-told-3 : tie.Need-enum-told-3
-enum-told-3 c = search needs
-
-lesser-requires : tie.Need-lesser-requires
-lesser-requires c κs = search needs
-
-enum-told-4 : tie.Need-enum-told-4
-enum-told-4 c = search needs
-
 returns : tie.Need-returns
 returns c = let s = c .before .before in rw (toZ-ofZ (s .fits .c), c .enum-told .given .1) (refl, s .pre)
 
@@ -44,11 +29,11 @@ pub value-spec : {M : Type 1} → statement M
 value-spec =
     tie.close
     (tie.spec
-    enum-told
-    enum-told-2
-    enum-told-3
-    lesser-requires
-    enum-told-4
+    (λ c. search needs)
+    (λ c. search needs)
+    (λ c. search needs)
+    (λ c κs. search needs)
+    (λ c. search needs)
     returns
     returns-2
     returns-3

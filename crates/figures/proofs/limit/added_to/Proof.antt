@@ -19,20 +19,8 @@ stored c = var (number (c .args .risks) (c .args .g)) ⊕ var (c .args .x)
 ok : (c : tie.Start) → Runs (stored c)
 ok c = sum-runs (upto-within (c .pre .0 .each (c .args .g) (c .pre .1))) (upto-within (c .pre .2)) (omega arith)
 
-mul-sums : tie.Need-mul-sums
-mul-sums c = search needs
-
-array-copy-out-sums : tie.Need-array-copy-out-sums
-array-copy-out-sums c = search needs
-
 add-sums : tie.Need-add-sums
 add-sums c = need! (stored (c .before)) (ok (c .before))
-
-mul-sums-2 : tie.Need-mul-sums-2
-mul-sums-2 c = search needs
-
-array-set-from-sums : tie.Need-array-set-from-sums
-array-set-from-sums c = search needs
 
 returns : tie.Need-returns
 unfolding addedTo
@@ -43,4 +31,4 @@ returns c =
 pub added-to-spec : {M : Type 1} → statement M
 added-to-spec =
     tie.close
-    (tie.spec mul-sums array-copy-out-sums add-sums mul-sums-2 array-set-from-sums returns)
+    (tie.spec (λ c. search needs) (λ c. search needs) add-sums (λ c. search needs) (λ c. search needs) returns)

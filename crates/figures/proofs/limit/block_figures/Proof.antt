@@ -9,12 +9,6 @@ use Rattle.figures.proofs.Discount.{percent-ranges}
 use Rattle.figures.proofs.limit.block_figures.Statement.{statement}
 use Rattle.figures.proofs.limit.block_figures.Tie as tie
 
-totals-of-requires : tie.Need-totals-of-requires
-totals-of-requires c κs = search needs
-
-rubles-of-requires : tie.Need-rubles-of-requires
-rubles-of-requires c κs = search needs
-
 figures-of-requires : tie.Need-figures-of-requires
 figures-of-requires c κs = (c .before .totals-of .ensures .1, percent-ranges (c .before .before .pre .1), let h = c .rubles-of .ensures .1 in omega ints)
 
@@ -28,4 +22,4 @@ returns c =
 
 pub block-figures-spec : {M : Type 1} → statement M
 block-figures-spec =
-    tie.close (tie.spec totals-of-requires rubles-of-requires figures-of-requires returns)
+    tie.close (tie.spec (λ c κs. search needs) (λ c κs. search needs) figures-of-requires returns)

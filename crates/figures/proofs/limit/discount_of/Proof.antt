@@ -44,33 +44,6 @@ product-range c = product-upto (twice-upto (percent-upto (c .before .before .bef
 ok : (c : tie.After-divided-down-arg) → Runs (product c)
 ok c = omega (ints, is (product c), product-range c, percent-upto (c .before .before .before .before), lesser-upto (c .before))
 
-add-long : tie.Need-add-long
-add-long c = search needs
-
-mul-long : tie.Need-mul-long
-mul-long c = search needs
-
-array-copy-out-long : tie.Need-array-copy-out-long
-array-copy-out-long c = search needs
-
-add-short : tie.Need-add-short
-add-short c = search needs
-
-mul-short : tie.Need-mul-short
-mul-short c = search needs
-
-array-copy-out-short : tie.Need-array-copy-out-short
-array-copy-out-short c = search needs
-
-lesser-requires : tie.Need-lesser-requires
-lesser-requires c κs = search needs
-
-mul-divided-down : tie.Need-mul-divided-down
-mul-divided-down c = search needs
-
-shared-slice-copy-out-divided-down : tie.Need-shared-slice-copy-out-divided-down
-shared-slice-copy-out-divided-down c = search needs
-
 mul-divided-down-2 : tie.Need-mul-divided-down-2
 mul-divided-down-2 c = need! (lit 2 ⊛ var (percent (c .before .before .before .before))) (ok c .0)
 
@@ -97,15 +70,15 @@ pub discount-of-spec : {M : Type 1} → statement M
 discount-of-spec =
     tie.close
     (tie.spec
-    add-long
-    mul-long
-    array-copy-out-long
-    add-short
-    mul-short
-    array-copy-out-short
-    lesser-requires
-    mul-divided-down
-    shared-slice-copy-out-divided-down
+    (λ c. search needs)
+    (λ c. search needs)
+    (λ c. search needs)
+    (λ c. search needs)
+    (λ c. search needs)
+    (λ c. search needs)
+    (λ c κs. search needs)
+    (λ c. search needs)
+    (λ c. search needs)
     mul-divided-down-2
     mul-divided-down-3
     divided-down-requires

@@ -17,9 +17,6 @@ valuation c = var (c .args .totals .valuation) ⊕ var (c .args .rubles)
 ok : (c : tie.Start) → Runs (valuation c)
 ok c = sum-runs (c .pre .0 .valuation-within) (c .pre .2) (omega arith)
 
-discounts-requires : tie.Need-discounts-requires
-discounts-requires c κs = search needs
-
 add-valuation : tie.Need-add-valuation
 add-valuation c = let s = c .before .before .before .before .before in need! (valuation s) (ok s)
 
@@ -48,4 +45,4 @@ returns c =
 
 pub figures-of-spec : {M : Type 1} → statement M
 figures-of-spec =
-    tie.close (tie.spec discounts-requires add-valuation single-limit-requires returns)
+    tie.close (tie.spec (λ c κs. search needs) add-valuation single-limit-requires returns)

@@ -12,9 +12,6 @@ use Rattle.figures.specs.Limit.{groupOf}
 use Rattle.figures.proofs.limit.group_of.Statement.{statement}
 use Rattle.figures.proofs.limit.group_of.Tie as tie
 
-shared-slice-copy-out-result : tie.Need-shared-slice-copy-out-result
-shared-slice-copy-out-result c = search needs
-
 cast-result : tie.Need-cast-result
 cast-result c = let h = c .before .pre .group-upto in omega ints
 
@@ -26,4 +23,4 @@ returns c =
     (ap natAbs (toZ-ofZ (h .fits)), omega (ints, abs-is group, one-is-zero group))
 
 pub group-of-spec : {M : Type 1} → statement M
-group-of-spec = tie.close (tie.spec shared-slice-copy-out-result cast-result returns)
+group-of-spec = tie.close (tie.spec (λ c. search needs) cast-result returns)

@@ -36,23 +36,11 @@ ruble-within c = subst (λ (z : ℤ). z within 100000000000000) (ruble c) (c .be
 loop-holds : tie.Need-loop-holds Inv-loop μ-loop
 loop-holds c = (omega arith, sym (sum-none _), omega ints)
 
-add-sum : tie.Need-add-sum Inv-loop μ-loop
-add-sum c = search needs
-
-mul-sum : tie.Need-mul-sum Inv-loop μ-loop
-mul-sum c = search needs
-
 shared-slice-copy-out-sum : tie.Need-shared-slice-copy-out-sum Inv-loop μ-loop
 shared-slice-copy-out-sum c = let long = c .before .before .pre .long in omega arith
 
 add-sum-2 : tie.Need-add-sum-2 Inv-loop μ-loop
 add-sum-2 c = omega (ints, ruble-within (c .before))
-
-add-k : tie.Need-add-k Inv-loop μ-loop
-add-k c = search needs
-
-loop-less : tie.Need-loop-less Inv-loop μ-loop
-loop-less c = search needs
 
 loop-again : tie.Need-loop-again Inv-loop μ-loop
 loop-again c =
@@ -74,11 +62,11 @@ rubles-of-spec =
     Inv-loop
     μ-loop
     loop-holds
-    add-sum
-    mul-sum
+    (λ c. search needs)
+    (λ c. search needs)
     shared-slice-copy-out-sum
     add-sum-2
-    add-k
-    loop-less
+    (λ c. search needs)
+    (λ c. search needs)
     loop-again
     returns)

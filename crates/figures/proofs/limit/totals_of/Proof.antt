@@ -41,12 +41,6 @@ with-asset-of-requires c κs =
     let s = c .before .before in
     (ranges-wider (l .a) 15 (l .totals) (l .inv .2) (omega arith) (omega arith), s .pre .0, s .pre .1, omega arith)
 
-add-a : tie.Need-add-a Inv-loop μ-loop
-add-a c = search needs
-
-loop-less : tie.Need-loop-less Inv-loop μ-loop
-loop-less c = search needs
-
 loop-again : tie.Need-loop-again Inv-loop μ-loop
 loop-again c =
     let l = c .before .before .loop in
@@ -64,4 +58,4 @@ returns c =
 pub totals-of-spec : {M : Type 1} → statement M
 totals-of-spec =
     tie.close
-    (tie.spec Inv-loop μ-loop loop-holds with-asset-of-requires add-a loop-less loop-again returns)
+    (tie.spec Inv-loop μ-loop loop-holds with-asset-of-requires (λ c. search needs) (λ c. search needs) loop-again returns)

@@ -60,30 +60,6 @@ short-risk c =
     let sum = c .before .before .before .before .before .before .sum-of .ensures in
     c .if-short .ensures .0 ∙ ap₂ (λ (x y : ℤ). cond (ltZ x (pos 0)) y (pos 0)) (toZ-ofZ (sum .1 .fits) ∙ sum .0) (toZ-ofZ (m .1 .fits) ∙ m .0)
 
-market-risk-requires : tie.Need-market-risk-requires
-market-risk-requires c κs = search needs
-
-interest-risk-requires : tie.Need-interest-risk-requires
-interest-risk-requires c κs = search needs
-
-sum-of-requires : tie.Need-sum-of-requires
-sum-of-requires c κs = search needs
-
-group-of-requires : tie.Need-group-of-requires
-group-of-requires c κs = search needs
-
-if-long-requires : tie.Need-if-long-requires
-if-long-requires c κs = search needs
-
-added-to-requires : tie.Need-added-to-requires
-added-to-requires c κs = search needs
-
-if-short-requires : tie.Need-if-short-requires
-if-short-requires c κs = search needs
-
-added-to-requires-2 : tie.Need-added-to-requires-2
-added-to-requires-2 c κs = search needs
-
 add-t13 : tie.Need-add-t13
 add-t13 c = let k = c .before .before .before .before .before .before .before .before .before .before .before .before in need! (valuation k) (valuation-runs k)
 
@@ -125,14 +101,14 @@ pub with-asset-spec : {M : Type 1} → statement M
 with-asset-spec =
     tie.close
     (tie.spec
-    market-risk-requires
-    interest-risk-requires
-    sum-of-requires
-    group-of-requires
-    if-long-requires
-    added-to-requires
-    if-short-requires
-    added-to-requires-2
+    (λ c κs. search needs)
+    (λ c κs. search needs)
+    (λ c κs. search needs)
+    (λ c κs. search needs)
+    (λ c κs. search needs)
+    (λ c κs. search needs)
+    (λ c κs. search needs)
+    (λ c κs. search needs)
     add-t13
     add-t14
     add-t15

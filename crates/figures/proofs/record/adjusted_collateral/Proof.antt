@@ -21,12 +21,6 @@ ok c = let h = c .before .before .pre .1 .collateral-within in omega ints
 raw : (c : tie.After-held) → let holding = now (c .before .before .args .holding) in held (whole c) ≡ collateral holding +ℤ trades holding
 raw c = runs (whole c) (ok c) ∙ ap (λ (t : ℤ). collateral (now (c .before .before .args .holding)) +ℤ t) (c .before .trades-of .ensures .0)
 
-trades-of-requires : tie.Need-trades-of-requires
-trades-of-requires c κs = search needs
-
-shared-slice-copy-out-held : tie.Need-shared-slice-copy-out-held
-shared-slice-copy-out-held c = search needs
-
 add-adjust : tie.Need-add-adjust
 add-adjust c = need! (whole c) (ok c)
 
@@ -43,4 +37,4 @@ returns c =
 pub adjusted-collateral-spec : {M : Type 1} → statement M
 adjusted-collateral-spec =
     tie.close
-    (tie.spec trades-of-requires shared-slice-copy-out-held add-adjust adjust-requires returns)
+    (tie.spec (λ c κs. search needs) (λ c. search needs) add-adjust adjust-requires returns)

@@ -35,18 +35,6 @@ valued c =
     ∙ ap₂ _-ℤ_ (rw (toZ-ofZ (a .adjusted-collateral .ensures .1 .fits), adjusted a, a .before .regime-of .ensures .0) at (c .before .value .ensures .0))
     (c .left-out .ensures .0)
 
-regime-of-requires : tie.Need-regime-of-requires
-regime-of-requires c κs = search needs
-
-adjusted-collateral-requires : tie.Need-adjusted-collateral-requires
-adjusted-collateral-requires c κs = search needs
-
-value-requires : tie.Need-value-requires
-value-requires c κs = search needs
-
-left-out-requires : tie.Need-left-out-requires
-left-out-requires c κs = search needs
-
 sub-worth-of : tie.Need-sub-worth-of
 sub-worth-of c = need! (less c) (ok c)
 
@@ -54,9 +42,6 @@ worth-of-requires : tie.Need-worth-of-requires
 worth-of-requires c κs =
     let s = c .before .before .before .before in let h = c .before .value .ensures .1 in let k = c .left-out .ensures .1 in
     rw (runs (less c) (ok c)) (s .pre .0, s .pre .1, omega (ints, is (less c)))
-
-positions-of-requires : tie.Need-positions-of-requires
-positions-of-requires c κs = search needs
 
 returns : tie.Need-returns
 unfolding assetOf
@@ -71,11 +56,11 @@ pub asset-of-spec : {M : Type 1} → statement M
 asset-of-spec =
     tie.close
     (tie.spec
-    regime-of-requires
-    adjusted-collateral-requires
-    value-requires
-    left-out-requires
+    (λ c κs. search needs)
+    (λ c κs. search needs)
+    (λ c κs. search needs)
+    (λ c κs. search needs)
     sub-worth-of
     worth-of-requires
-    positions-of-requires
+    (λ c κs. search needs)
     returns)

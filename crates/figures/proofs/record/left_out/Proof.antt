@@ -24,25 +24,13 @@ asked : (c : tie.After-lies-between) → let s = c .before .before .before .befo
 asked c =
     let h = c .before .share-in-force .ensures in rw (toZ-ofZ (h .1 .fits), h .0) at (c .lies-between .ensures)
 
-number-between-requires : tie.Need-number-between-requires
-number-between-requires c κs = search needs
-
 returns : tie.Need-returns
 unfolding leftOut
 returns c = (rw (other-kind c) refl, search needs)
 
-share-in-force-requires : tie.Need-share-in-force-requires
-share-in-force-requires c κs = search needs
-
-lies-between-requires : tie.Need-lies-between-requires
-lies-between-requires c κs = search needs
-
 returns-2 : tie.Need-returns-2
 unfolding leftOut
 returns-2 c = (rw (currency (c .before .before .before), taken (asked (c .before)) (c .if2 .taken)) refl, search needs)
-
-shared-slice-copy-out-result : tie.Need-shared-slice-copy-out-result
-shared-slice-copy-out-result c = search needs
 
 returns-3 : tie.Need-returns-3
 unfolding leftOut
@@ -54,10 +42,10 @@ pub left-out-spec : {M : Type 1} → statement M
 left-out-spec =
     tie.close
     (tie.spec
-    number-between-requires
+    (λ c κs. search needs)
     returns
-    share-in-force-requires
-    lies-between-requires
+    (λ c κs. search needs)
+    (λ c κs. search needs)
     returns-2
-    shared-slice-copy-out-result
+    (λ c. search needs)
     returns-3)

@@ -10,21 +10,6 @@ use Rattle.figures.proofs.record.level_of.Tie as tie
 date : (c : tie.Start) → DateRanges (now (c .args .row)) (c .args .d)
 date c = c .pre .0 .date (c .args .d) (c .pre .1)
 
-shared-slice-copy-out-result : tie.Need-shared-slice-copy-out-result
-shared-slice-copy-out-result c = search needs
-
-mul-result : tie.Need-mul-result
-mul-result c = search needs
-
-add-result : tie.Need-add-result
-add-result c = search needs
-
-mul-result-2 : tie.Need-mul-result-2
-mul-result-2 c = search needs
-
-shared-slice-copy-out-result-2 : tie.Need-shared-slice-copy-out-result-2
-shared-slice-copy-out-result-2 c = search needs
-
 add-result-2 : tie.Need-add-result-2
 add-result-2 c =
     let s = c .before .before in
@@ -39,10 +24,10 @@ pub level-of-spec : {M : Type 1} → statement M
 level-of-spec =
     tie.close
     (tie.spec
-    shared-slice-copy-out-result
-    mul-result
-    add-result
-    mul-result-2
-    shared-slice-copy-out-result-2
+    (λ c. search needs)
+    (λ c. search needs)
+    (λ c. search needs)
+    (λ c. search needs)
+    (λ c. search needs)
     add-result-2
     returns)

@@ -7,24 +7,6 @@ use Rattle.figures.proofs.Positions.{net-within}
 use Rattle.figures.proofs.record.net_of.Statement.{statement}
 use Rattle.figures.proofs.record.net_of.Tie as tie
 
-add-result : tie.Need-add-result
-add-result c = search needs
-
-mul-result : tie.Need-mul-result
-mul-result c = search needs
-
-shared-slice-copy-out-result : tie.Need-shared-slice-copy-out-result
-shared-slice-copy-out-result c = search needs
-
-add-result-2 : tie.Need-add-result-2
-add-result-2 c = search needs
-
-mul-result-2 : tie.Need-mul-result-2
-mul-result-2 c = search needs
-
-shared-slice-copy-out-result-2 : tie.Need-shared-slice-copy-out-result-2
-shared-slice-copy-out-result-2 c = search needs
-
 sub-result : tie.Need-sub-result
 unfolding net
 sub-result c =
@@ -41,11 +23,11 @@ pub net-of-spec : {M : Type 1} → statement M
 net-of-spec =
     tie.close
     (tie.spec
-    add-result
-    mul-result
-    shared-slice-copy-out-result
-    add-result-2
-    mul-result-2
-    shared-slice-copy-out-result-2
+    (λ c. search needs)
+    (λ c. search needs)
+    (λ c. search needs)
+    (λ c. search needs)
+    (λ c. search needs)
+    (λ c. search needs)
     sub-result
     returns)

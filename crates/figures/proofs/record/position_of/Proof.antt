@@ -24,9 +24,6 @@ first c =
     (subst (λ (d : ℕ). net (now (s .args .holding)) d +ℤ s .args .c ≡ position (now (s .args .holding)) (s .args .c) d)
     (sym (c .if1 .taken)) (sym (position-first (now (s .args .holding)) (s .args .c))))
 
-net-of-requires : tie.Need-net-of-requires
-net-of-requires c κs = search needs
-
 add-result : tie.Need-add-result
 add-result c = omega ints
 
@@ -41,4 +38,4 @@ returns-2 c =
     rw (toZ-ofZ (c .before .net-of .ensures .1 .fits), c .before .net-of .ensures .0) (sym e, rw e at r)
 
 pub position-of-spec : {M : Type 1} → statement M
-position-of-spec = tie.close (tie.spec net-of-requires add-result returns returns-2)
+position-of-spec = tie.close (tie.spec (λ c κs. search needs) add-result returns returns-2)

@@ -34,18 +34,6 @@ position-of-requires : tie.Need-position-of-requires Inv-loop μ-loop
 position-of-requires c κs =
     let s = c .before .before in rw (toZ-ofZ (s .fits .c)) (s .pre .0, omega arith, wider 2000000 (s .pre .1) (omega arith))
 
-mul-positions : tie.Need-mul-positions Inv-loop μ-loop
-mul-positions c = search needs
-
-array-set-from-positions : tie.Need-array-set-from-positions Inv-loop μ-loop
-array-set-from-positions c = search needs
-
-add-d : tie.Need-add-d Inv-loop μ-loop
-add-d c = search needs
-
-loop-less : tie.Need-loop-less Inv-loop μ-loop
-loop-less c = search needs
-
 loop-again : tie.Need-loop-again Inv-loop μ-loop
 loop-again c =
     let l = c .before .before .loop in let r = c .position-of .ensures in (
@@ -73,9 +61,9 @@ positions-of-spec =
     μ-loop
     loop-holds
     position-of-requires
-    mul-positions
-    array-set-from-positions
-    add-d
-    loop-less
+    (λ c. search needs)
+    (λ c. search needs)
+    (λ c. search needs)
+    (λ c. search needs)
     loop-again
     returns)

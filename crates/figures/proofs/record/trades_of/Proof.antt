@@ -26,17 +26,8 @@ abbrev μ-loop : tie.MeasureT-loop
 loop-holds : tie.Need-loop-holds Inv-loop μ-loop
 loop-holds c = (omega arith, sym (sum-none _), omega ints)
 
-net-of-requires : tie.Need-net-of-requires Inv-loop μ-loop
-net-of-requires c κs = search needs
-
 add-sum : tie.Need-add-sum Inv-loop μ-loop
 add-sum c = omega ints
-
-add-d : tie.Need-add-d Inv-loop μ-loop
-add-d c = search needs
-
-loop-less : tie.Need-loop-less Inv-loop μ-loop
-loop-less c = search needs
 
 loop-again : tie.Need-loop-again Inv-loop μ-loop
 loop-again c =
@@ -51,4 +42,4 @@ returns c =
 pub trades-of-spec : {M : Type 1} → statement M
 trades-of-spec =
     tie.close
-    (tie.spec Inv-loop μ-loop loop-holds net-of-requires add-sum add-d loop-less loop-again returns)
+    (tie.spec Inv-loop μ-loop loop-holds (λ c κs. search needs) add-sum (λ c. search needs) (λ c. search needs) loop-again returns)

@@ -36,12 +36,6 @@ worth-of-date-requires c κs =
 add-sum : tie.Need-add-sum Inv-loop μ-loop
 add-sum c = omega ints
 
-add-d : tie.Need-add-d Inv-loop μ-loop
-add-d c = search needs
-
-loop-less : tie.Need-loop-less Inv-loop μ-loop
-loop-less c = search needs
-
 loop-again : tie.Need-loop-again Inv-loop μ-loop
 loop-again c =
     let s = c .before .before .before in
@@ -62,7 +56,7 @@ worth-of-spec =
     loop-holds
     worth-of-date-requires
     add-sum
-    add-d
-    loop-less
+    (λ c. search needs)
+    (λ c. search needs)
     loop-again
     returns)

@@ -19,12 +19,6 @@ worth : (c : tie.After-level-of) → let s = c .before .before in
 unfolding worthOf
 worth c = ap₂ _*ℤ_ (rw (toZ-ofZ (c .before .before .fits .c)) at (c .before .position-of .ensures .0)) (c .level-of .ensures .0)
 
-position-of-requires : tie.Need-position-of-requires
-position-of-requires c κs = search needs
-
-level-of-requires : tie.Need-level-of-requires
-level-of-requires c κs = search needs
-
 mul-result : tie.Need-mul-result
 mul-result c = rw (toZ-ofZ (c .before .position-of .ensures .1 .fits), toZ-ofZ (c .level-of .ensures .1 .fits)) (product c .fits)
 
@@ -33,4 +27,4 @@ returns c =
     rw (toZ-ofZ (c .before .position-of .ensures .1 .fits), toZ-ofZ (c .level-of .ensures .1 .fits), toZ-ofZ (product c .fits)) (worth c, product c)
 
 pub worth-of-date-spec : {M : Type 1} → statement M
-worth-of-date-spec = tie.close (tie.spec position-of-requires level-of-requires mul-result returns)
+worth-of-date-spec = tie.close (tie.spec (λ c κs. search needs) (λ c κs. search needs) mul-result returns)

@@ -36,12 +36,6 @@ ok c =
     let p = c .before .before .pre in
     omega (ints, is (inner c), is (outer c), product-upto (p .0) (within-upto c) (omega arith), product-upto (p .1) (above-upto c) (omega arith))
 
-lesser-requires : tie.Need-lesser-requires
-lesser-requires c κs = search needs
-
-greater-requires : tie.Need-greater-requires
-greater-requires c κs = search needs
-
 mul-result : tie.Need-mul-result
 mul-result c = need! (inner c) (ok c .0)
 
@@ -67,9 +61,9 @@ pub charge-of-spec : {M : Type 1} → statement M
 charge-of-spec =
     tie.close
     (tie.spec
-    lesser-requires
+    (λ c κs. search needs)
     sub-greater
-    greater-requires
+    (λ c κs. search needs)
     mul-result
     mul-result-2
     add-result

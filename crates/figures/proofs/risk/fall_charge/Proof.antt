@@ -13,31 +13,16 @@ use Rattle.figures.proofs.Sides.{width-below, fall-slope}
 use Rattle.figures.proofs.risk.fall_charge.Statement.{statement}
 use Rattle.figures.proofs.risk.fall_charge.Tie as tie
 
-mul-mid : tie.Need-mul-mid
-mul-mid c = search needs
-
-add-mid : tie.Need-add-mid
-add-mid c = search needs
-
-add-width : tie.Need-add-width
-add-width c = search needs
-
 width-requires : tie.Need-width-requires
 width-requires c κs =
     let long = c .pre .0 .long in
     (omega arith, omega arith, c .pre .0 .date (c .args .d) (c .pre .1) .below)
-
-add-width-2 : tie.Need-add-width-2
-add-width-2 c = search needs
 
 width-requires-2 : tie.Need-width-requires-2
 width-requires-2 c κs =
     let s = c .before in
     let long = s .pre .0 .long in
     (omega arith, omega arith, s .pre .0 .date (s .args .d) (s .pre .1) .outer-below)
-
-shared-slice-copy-out-limit : tie.Need-shared-slice-copy-out-limit
-shared-slice-copy-out-limit c = search needs
 
 charge-of-requires : tie.Need-charge-of-requires
 charge-of-requires c κs =
@@ -64,12 +49,12 @@ pub fall-charge-spec : {M : Type 1} → statement M
 fall-charge-spec =
     tie.close
     (tie.spec
-    mul-mid
-    add-mid
-    add-width
+    (λ c. search needs)
+    (λ c. search needs)
+    (λ c. search needs)
     width-requires
-    add-width-2
+    (λ c. search needs)
     width-requires-2
-    shared-slice-copy-out-limit
+    (λ c. search needs)
     charge-of-requires
     returns)

@@ -19,12 +19,6 @@ use Rattle.figures.proofs.risk.interest_of.Tie as tie
 position-within : (c : tie.Start) → number (c .args .t2) (c .args .d) within 8000000
 position-within c = c .pre .1 .each (c .args .d) (c .pre .2)
 
-mul-position : tie.Need-mul-position
-mul-position c = search needs
-
-array-copy-out-position : tie.Need-array-copy-out-position
-array-copy-out-position c = search needs
-
 sub-rise-charge : tie.Need-sub-rise-charge
 sub-rise-charge c = omega (ints, position-within (c .before .before))
 
@@ -66,8 +60,8 @@ pub interest-of-spec : {M : Type 1} → statement M
 interest-of-spec =
     tie.close
     (tie.spec
-    mul-position
-    array-copy-out-position
+    (λ c. search needs)
+    (λ c. search needs)
     sub-rise-charge
     rise-charge-requires
     sub-result

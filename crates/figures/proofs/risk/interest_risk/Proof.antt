@@ -28,17 +28,8 @@ abbrev μ-loop : tie.MeasureT-loop
 loop-holds : tie.Need-loop-holds Inv-loop μ-loop
 loop-holds c = (omega arith, sym (sum-none _), omega ints)
 
-interest-of-requires : tie.Need-interest-of-requires Inv-loop μ-loop
-interest-of-requires c κs = search needs
-
 add-sum : tie.Need-add-sum Inv-loop μ-loop
 add-sum c = omega ints
-
-add-d : tie.Need-add-d Inv-loop μ-loop
-add-d c = search needs
-
-loop-less : tie.Need-loop-less Inv-loop μ-loop
-loop-less c = search needs
 
 loop-again : tie.Need-loop-again Inv-loop μ-loop
 loop-again c =
@@ -65,10 +56,10 @@ interest-risk-spec =
     Inv-loop
     μ-loop
     loop-holds
-    interest-of-requires
+    (λ c κs. search needs)
     add-sum
-    add-d
-    loop-less
+    (λ c. search needs)
+    (λ c. search needs)
     loop-again
     size-requires
     returns)

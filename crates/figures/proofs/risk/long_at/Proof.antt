@@ -9,15 +9,6 @@ use Rattle.whole.proofs.Rules.{ints}
 use Rattle.figures.proofs.risk.long_at.Statement.{statement}
 use Rattle.figures.proofs.risk.long_at.Tie as tie
 
-mul-position : tie.Need-mul-position
-mul-position c = search needs
-
-array-copy-out-position : tie.Need-array-copy-out-position
-array-copy-out-position c = search needs
-
-greater-requires : tie.Need-greater-requires
-greater-requires c κs = search needs
-
 returns : tie.Need-returns
 returns c =
     let s = c .before .before in
@@ -26,4 +17,4 @@ returns c =
     (toZ-ofZ (r .1) ∙ r .0 ∙ ap (maxℤ (pos 0)) (toZ-ofZ (h .fits)), omega ints)
 
 pub long-at-spec : {M : Type 1} → statement M
-long-at-spec = tie.close (tie.spec mul-position array-copy-out-position greater-requires returns)
+long-at-spec = tie.close (tie.spec (λ c. search needs) (λ c. search needs) (λ c κs. search needs) returns)

@@ -20,24 +20,6 @@ use Rattle.figures.proofs.Sides.{market-special, market-long, market-sh
 use Rattle.figures.proofs.risk.market_risk.Statement.{statement}
 use Rattle.figures.proofs.risk.market_risk.Tie as tie
 
-number-between-requires : tie.Need-number-between-requires
-number-between-requires c κs = search needs
-
-long-sum-requires : tie.Need-long-sum-requires
-long-sum-requires c κs = search needs
-
-short-sum-requires : tie.Need-short-sum-requires
-short-sum-requires c κs = search needs
-
-side-risk-requires : tie.Need-side-risk-requires
-side-risk-requires c κs = search needs
-
-side-risk-requires-2 : tie.Need-side-risk-requires-2
-side-risk-requires-2 c κs = search needs
-
-greater-requires : tie.Need-greater-requires
-greater-requires c κs = search needs
-
 returns : tie.Need-returns
 returns c =
     let t = c .before .before .before .before .before in
@@ -58,9 +40,6 @@ returns c =
 -- past the test for special delivery
 ordinary : (c : tie.Else1) → special (now (c .before .before .args .row)) ≡ false
 ordinary c = failed (c .before .number-between .ensures) (c .if1 .left)
-
-sum-of-requires : tie.Need-sum-of-requires
-sum-of-requires c κs = search needs
 
 sub-side-risk : tie.Need-sub-side-risk
 sub-side-risk c = omega ints
@@ -99,14 +78,14 @@ pub market-risk-spec : {M : Type 1} → statement M
 market-risk-spec =
     tie.close
     (tie.spec
-    number-between-requires
-    long-sum-requires
-    short-sum-requires
-    side-risk-requires
-    side-risk-requires-2
-    greater-requires
+    (λ c κs. search needs)
+    (λ c κs. search needs)
+    (λ c κs. search needs)
+    (λ c κs. search needs)
+    (λ c κs. search needs)
+    (λ c κs. search needs)
     returns
-    sum-of-requires
+    (λ c κs. search needs)
     sub-side-risk
     side-risk-requires-3
     returns-2

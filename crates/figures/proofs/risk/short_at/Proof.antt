@@ -10,17 +10,8 @@ use Rattle.whole.proofs.InRange.{negated}
 use Rattle.figures.proofs.risk.short_at.Statement.{statement}
 use Rattle.figures.proofs.risk.short_at.Tie as tie
 
-mul-position : tie.Need-mul-position
-mul-position c = search needs
-
-array-copy-out-position : tie.Need-array-copy-out-position
-array-copy-out-position c = search needs
-
 sub-greater : tie.Need-sub-greater
 sub-greater c = omega (ints, c .before .pre .0 .each (c .before .args .d) (omega arith))
-
-greater-requires : tie.Need-greater-requires
-greater-requires c κs = search needs
 
 returns : tie.Need-returns
 returns c =
@@ -31,4 +22,4 @@ returns c =
 
 pub short-at-spec : {M : Type 1} → statement M
 short-at-spec =
-    tie.close (tie.spec mul-position array-copy-out-position sub-greater greater-requires returns)
+    tie.close (tie.spec (λ c. search needs) (λ c. search needs) sub-greater (λ c κs. search needs) returns)

@@ -53,36 +53,12 @@ product-range c = product-upto (charged-upto (c .before)) (c .before .before .be
 ok : (c : tie.After-divided-up-arg) → Runs (product c)
 ok c = omega (ints, is (product c), product-range c, charged-upto (c .before), c .before .before .before .before .before .pre .0 .price-upto)
 
-add-base : tie.Need-add-base
-add-base c = search needs
-
-mul-base : tie.Need-mul-base
-mul-base c = search needs
-
-shared-slice-copy-out-base : tie.Need-shared-slice-copy-out-base
-shared-slice-copy-out-base c = search needs
-
-add-raised : tie.Need-add-raised
-add-raised c = search needs
-
-mul-raised : tie.Need-mul-raised
-mul-raised c = search needs
-
-shared-slice-copy-out-raised : tie.Need-shared-slice-copy-out-raised
-shared-slice-copy-out-raised c = search needs
-
-shared-slice-copy-out-limit : tie.Need-shared-slice-copy-out-limit
-shared-slice-copy-out-limit c = search needs
-
 charge-of-requires : tie.Need-charge-of-requires
 charge-of-requires c κs =
     let s = c .before .before .before in
     let r = s .pre .0 in
     let rates = r .side (s .args .side) (s .pre .1) in
     (upto-back (upto-wider 10000000 (rates .base-upto) (omega arith)), upto-back (upto-wider 10000000 (rates .raised-upto) (omega arith)), upto-back (r .market-upto), upto-back (s .pre .2))
-
-shared-slice-copy-out-divided-up : tie.Need-shared-slice-copy-out-divided-up
-shared-slice-copy-out-divided-up c = search needs
 
 mul-divided-up : tie.Need-mul-divided-up
 mul-divided-up c = need! (product c) (ok c)
@@ -102,15 +78,15 @@ pub side-risk-spec : {M : Type 1} → statement M
 side-risk-spec =
     tie.close
     (tie.spec
-    add-base
-    mul-base
-    shared-slice-copy-out-base
-    add-raised
-    mul-raised
-    shared-slice-copy-out-raised
-    shared-slice-copy-out-limit
+    (λ c. search needs)
+    (λ c. search needs)
+    (λ c. search needs)
+    (λ c. search needs)
+    (λ c. search needs)
+    (λ c. search needs)
+    (λ c. search needs)
     charge-of-requires
-    shared-slice-copy-out-divided-up
+    (λ c. search needs)
     mul-divided-up
     divided-up-requires
     returns)
