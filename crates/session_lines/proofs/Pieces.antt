@@ -9,7 +9,7 @@ use lib.ListN.{length, take}
 use Rattle.frames.specs.Frame.{lineFrame}
 use Rattle.frames.specs.Answer.{written}
 use Rattle.session_lines.specs.Session.{State, linesFrom, answers, session, start}
-use Rattle.session_lines.specs.Stream.{Stream, empty, fed, ended}
+use Rattle.session_lines.specs.Stream.{Stream, empty, fed, ended, closed, Ended}
 use Rattle.session_lines.specs.Pieces.{Call, text, SoFar, soFar, opening}
 use Rattle.session_lines.proofs.Follows.{at, answerTo, closing-at, Follows, follows}
 use Rattle.session_lines.proofs.Whole.{cutLine, blank-cut, answer-fits, text-written}
@@ -47,11 +47,11 @@ ran (c ∷ calls) line s =
         }
 
 -- the end of the input
-last : (line : List ℕ) (s : State) (out : List ℕ) → 83 ≤ length out → text (ended (at line s) (empty out)) ≡ answers s (linesFrom line [])
+last : (line : List ℕ) (s : State) (out : List ℕ) → 83 ≤ length out → text (ended (at line s) (empty out) .out) ≡ answers s (linesFrom line [])
 unfolding ended linesFrom answers
 last line s out room = rw (blank-cut line, closing-at line s) (by (eqb (length line) 0))
   where
-    by : (blank : Bool) → text (cond blank (empty out) (written out 0 (answerTo s line .line))) ≡ answers s (cond blank [] (line ∷ []))
+    by : (blank : Bool) → text (cond {A = Ended} blank (record { state = s; out = empty out }) (record { state = closed (at line s) .state; out = written out 0 (answerTo s line .line) }) .out) ≡ answers s (cond blank [] (line ∷ []))
     by true = refl
     by false =
         let n = answer-fits s (lineFrame line) in
@@ -60,12 +60,12 @@ last line s out room = rw (blank-cut line, closing-at line s) (by (eqb (length l
 -- calls of `feed` on any pieces and any buffers, then a call of `end` on a buffer with room for an answer: what they wrote is what the session answers to
 -- the input that they took
 pub however-cut : (calls : List Call) (out : List ℕ) → 83 ≤ length out
-    → let r = soFar opening calls in r .answers ++ text (ended (r .stream) (empty out)) ≡ session (r .input)
+    → let r = soFar opening calls in r .answers ++ text (ended (r .stream) (empty out) .out) ≡ session (r .input)
 unfolding session cutLine
 however-cut calls out room =
     let r = soFar opening calls in
     let t : Ran [] start r = ran calls [] start in
     let e : r .stream ≡ at (t .next) (r .stream .state) = λ i. record { line = t .held i; state = r .stream .state } in
-    ap (λ (l : List ℕ). r .answers ++ l) (ap (λ (s : Stream). text (ended s (empty out))) e ∙ last (t .next) (r .stream .state) out room)
+    ap (λ (l : List ℕ). r .answers ++ l) (ap (λ (s : Stream). text (ended s (empty out) .out)) e ∙ last (t .next) (r .stream .state) out room)
     ∙ sym (t .same [])
     ∙ ap (λ (i : List ℕ). answers start (linesFrom [] i)) (append-nil (r .input))

@@ -79,5 +79,12 @@ isBlank (begun line) = eqb (length line) 0
 isBlank tooLong = false
 
 -- at the end of the input a line that has begun is answered, though its newline lacks
-unfoldable pub ended : Stream → Written → Written
-ended s out = cond (isBlank (s .line)) out (written (out .bytes) (out .at) (closing s))
+pub record Ended : Type 0 where
+  pub state : State
+  pub out : Written
+
+unfoldable pub ended : Stream → Written → Ended
+ended s out =
+    cond (isBlank (s .line))
+    (record { state = s .state; out = out })
+    (record { state = closed s .state; out = written (out .bytes) (out .at) (closing s) })

@@ -1,8 +1,7 @@
 ghost use mathlib.Core.Path.{_≡_};
 ghost use Prim.Native.Nat.{_≤_};
 ghost use lib.ListN.{length};
-ghost use Rattle.frames.specs.Answer.{Written};
-ghost use Rattle.session_lines.specs.Stream.{held, grown, frameHeld, streamIn, empty, Fed, fed, Took, ended};
+ghost use Rattle.session_lines.specs.Stream.{held, grown, frameHeld, streamIn, empty, Fed, fed, Took, Ended, ended};
 use crate::answer;
 use frames::Frame;
 
@@ -94,7 +93,7 @@ pub fn end(
     count: usize,
     out: &mut [u8],
 ) -> usize
-    ensures said { λ r. ⌜ _≡_ {A = Written} (record { bytes = now (out .exit); at = r }) (ended (streamIn (now (book .entry)) (now (parameters .entry)) (now (line .entry)) count) (empty (now (out .entry)))) ⌝ }
+    ensures ended { λ r. ⌜ _≡_ {A = Ended} (record { state = record { book = now (book .exit); parameters = now (parameters .exit) }; out = record { bytes = now (out .exit); at = r } }) (ended (streamIn (now (book .entry)) (now (parameters .entry)) (now (line .entry)) count) (empty (now (out .entry)))) ⌝ }
     ensures inside { λ r. ⌜ r ≤ length (now (out .exit)) ⌝ }
 {
     if count == 0 {
