@@ -40,7 +40,7 @@ function micro(rate) { return sprintf("%.2f", 1000000 / rate) }
 
 function origin() {
     print "# Benchmarks\n"
-    print "The engine and the second program's library, called on the same arrays in one process, in turn. `" ENVIRON["COMMAND"] "` measures and writes this page.\n"
+    print "The engine and the second program's library, called on the same arrays in one process, in turn. `bench/run` measures and writes this page.\n"
     print "- Date: " ENVIRON["DATE"] "; load of the machine at the start: " ENVIRON["LOAD"] ". Other work on it slows both programs, not always alike: a row with a wide spread was disturbed."
     print "- Machine: " ENVIRON["PROCESSOR"] "."
     print "- Engine: " ENVIRON["COMPILED"] "."
