@@ -1,4 +1,4 @@
--- Reading and writing are inverse to each other: digits and bytes, an n8 and its number. Assumes nothing.
+-- The statements of specs/Inverse proved. Assumes nothing.
 use mathlib.Core.Path.{_≡_, refl, ap, ap₂, _∙_}
 use mathlib.Core.Bool.{Bool, true, false, cond, _&&_}
 use mathlib.Core.List.{List, [], _∷_, _++_}
@@ -6,12 +6,12 @@ use Prim.Native.Nat.{ℕ, _+_, _-_, _*_, _/_, _%_, _<_}
 use native.Mathlib.Omega.{arith}
 use borrow.Author.Tests.{lt-ltb, le-ltb, ltb-true, ltb-false}
 use lib.Dec.{ltb}
-use lib.IntN.{ℤ}
 use mir.Syntax.{w64}
-use mir.Val.{SFits, toZ, ofZ}
+use mir.Val.{toZ, ofZ}
 use mir.Facts.{toZ-ofZ, ofZ-toZ}
 use Rattle.whole.proofs.Tests.{and-left, and-right, true-not-false}
 use Rattle.frames.specs.Hex.{digitValue, digitOf, isHex, bytesOf, hexOf}
+use Rattle.frames.specs.Inverse.{none, more, HexRight, HexRead, HexWritten, N8Read, N8Written}
 use Rattle.frames.specs.Number.{two, four, eight, n8At, twoBytes, fourBytes, eightBytes, n8}
 
 -- ---- one digit
@@ -42,23 +42,19 @@ digit-written b = first (ltb b 48) refl (ltb b 58) refl (ltb b 97) refl (ltb b 1
     first false e false f false g false i h = absurd (omega arith)
 
 -- ---- lines of digits and lists of bytes
-pub data Bytes : List ℕ → Type 0 where
-  none : Bytes []
-  more : {b : ℕ} {bytes : List ℕ} → b < 256 → Bytes bytes → Bytes (b ∷ bytes)
-
-pub hex-right : {bytes : List ℕ} → Bytes bytes → isHex (hexOf bytes) ≡ true
+pub hex-right : HexRight
 unfolding isHex hexOf
-hex-right none = refl
-hex-right (more {b} {bytes} h rest) =
-    rw (digit-read (b / 16) (omega arith), digit-read (b % 16) (omega arith), lt-ltb (b / 16) 16 (omega arith), lt-ltb (b % 16) 16 (omega arith)) (hex-right rest)
+hex-right [] none = refl
+hex-right (b ∷ bytes) (more h rest) =
+    rw (digit-read (b / 16) (omega arith), digit-read (b % 16) (omega arith), lt-ltb (b / 16) 16 (omega arith), lt-ltb (b % 16) 16 (omega arith)) (hex-right bytes rest)
 
-pub hex-read : {bytes : List ℕ} → Bytes bytes → bytesOf (hexOf bytes) ≡ bytes
+pub hex-read : HexRead
 unfolding bytesOf hexOf
-hex-read none = refl
-hex-read (more {b} {bytes} h rest) =
-    rw (digit-read (b / 16) (omega arith), digit-read (b % 16) (omega arith)) (ap₂ _∷_ (let e : b / 16 * 16 + b % 16 ≡ b = omega arith in e) (hex-read rest))
+hex-read [] none = refl
+hex-read (b ∷ bytes) (more h rest) =
+    rw (digit-read (b / 16) (omega arith), digit-read (b % 16) (omega arith)) (ap₂ _∷_ (let e : b / 16 * 16 + b % 16 ≡ b = omega arith in e) (hex-read bytes rest))
 
-pub hex-written : (line : List ℕ) → isHex line ≡ true → hexOf (bytesOf line) ≡ line
+pub hex-written : HexWritten
 unfolding isHex bytesOf hexOf
 hex-written [] e = refl
 hex-written (a ∷ []) e = true-not-false e
@@ -80,7 +76,7 @@ eight-read u =
     let high = u / 4294967296 in let low = u % 4294967296 in
     rw (joined (high / 65536) .0, joined (high % 65536) .0, joined (low / 65536) .0, joined (low % 65536) .0, joined high .1, joined low .1, joined u .2) refl
 
-pub n8-read : (z : ℤ) → SFits w64 z → n8At (n8 z) 0 ≡ z
+pub n8-read : N8Read
 unfolding n8At n8
 n8-read z s = ap (toZ w64) (eight-read (ofZ w64 z)) ∙ toZ-ofZ {w = w64} s
 
@@ -100,10 +96,9 @@ eight-parted x y h l =
     let e : (x * 4294967296 + y) / 4294967296 ≡ x = omega arith in let f : (x * 4294967296 + y) % 4294967296 ≡ y = omega arith in
     (rw (e, f) refl, omega arith)
 
-pub n8-written : (a b c d e f g h : ℕ) → a < 256 → b < 256 → c < 256 → d < 256 → e < 256 → f < 256 → g < 256 → h < 256
-    → n8 (n8At (a ∷ b ∷ c ∷ d ∷ e ∷ f ∷ g ∷ h ∷ []) 0) ≡ a ∷ b ∷ c ∷ d ∷ e ∷ f ∷ g ∷ h ∷ []
+pub n8-written : N8Written
 unfolding n8 n8At eight four two
-n8-written a b c d e f g h la lb lc ld le lf lg lh =
+n8-written a b c d e f g h (more la (more lb (more lc (more ld (more le (more lf (more lg (more lh none)))))))) =
     let p = two-parted a b la lb in let q = two-parted c d lc ld in let r = two-parted e f le lf in let s = two-parted g h lg lh in
     let x = four-parted (a * 256 + b) (c * 256 + d) (p .1) (q .1) in
     let y = four-parted (e * 256 + f) (g * 256 + h) (r .1) (s .1) in

@@ -1,12 +1,13 @@
--- Document 01, "Session lines": the line of an answer, and what writing it does to a buffer.
+-- Document 01, "Session lines": the line of an answer, and a buffer with it.
 -- Assumes nothing.
-use mathlib.Core.Path.{_≡_}
 use mathlib.Core.Bool.{cond}
 use mathlib.Core.List.{List, [], _∷_, _++_}
 use Prim.Native.Nat.{ℕ, _+_}
 use lib.Dec.{leb}
 use lib.IntN.{ℤ}
 use lib.ListN.{length}
+use denote.Ref.{RefT, now}
+use denote.Triple.Both.{Both}
 use Rattle.whole.specs.Parts.{put}
 use Rattle.frames.specs.Hex.{hexOf}
 use Rattle.frames.specs.Number.{n8}
@@ -20,12 +21,6 @@ figureBytes (z ∷ figures) = n8 z ++ figureBytes figures
 unfoldable pub answerLine : ℕ → List ℤ → List ℕ
 answerLine code figures = hexOf (code ∷ figureBytes figures) ++ (10 ∷ [])
 
--- the line, so many bytes of it, stands in a buffer from place `at` on, and `next` is the place past it
-pub record Laid (before : List ℕ) (at size : ℕ) (line after : List ℕ) (next : ℕ) : Type 0 where
-  pub count : next ≡ at + size
-  pub long : length line ≡ size
-  pub bytes : after ≡ put at size before line
-
 -- a buffer and the place past what is written in it
 pub record Written : Type 0 where
   pub bytes : List ℕ
@@ -37,3 +32,7 @@ written out at line =
     cond (leb (at + length line) (length out))
     (record { bytes = put at (length line) out line; at = at + length line })
     (record { bytes = out; at = at })
+
+-- as an `ensures` says it of the buffer
+abbrev pub writtenTo : Both (RefT (List ℕ)) (RefT (List ℕ)) → ℕ → Written
+writtenTo out next = record { bytes = now (out .exit); at = next }

@@ -3,12 +3,10 @@ ghost use Prim.Native.Nat.{_≤_};
 ghost use lib.ListN.{length};
 ghost use Rattle.frames.specs.Frame.{shaped, moveNumbers, orderNumbers, frameOf, lineFrame};
 use crate::hex;
+use crate::in_frame;
 use crate::number;
 
 // A line of a session as a frame.
-
-// Bytes of the longest frame, an order.
-const LONGEST: usize = 21;
 
 pub struct MoveNumbers {
     pub account: u8,
@@ -43,7 +41,7 @@ fn is_shaped(bytes: &[u8], size: usize, kind: u8) -> bool
     if bytes.len() != size {
         return false;
     }
-    bytes[0] == kind
+    bytes[in_frame::KIND] == kind
 }
 
 // The numbers of a move and of an order.
@@ -52,9 +50,9 @@ fn move_numbers(bytes: &[u8]) -> MoveNumbers
     ensures { λ r. ⌜ r ≡ moveNumbers (now (bytes .entry)) ⌝ }
 {
     MoveNumbers {
-        account: bytes[1],
-        asset: bytes[2],
-        amount: number::n8_at(bytes, 3),
+        account: bytes[in_frame::ACCOUNT],
+        asset: bytes[in_frame::ASSET],
+        amount: number::n8_at(bytes, in_frame::AMOUNT),
     }
 }
 
@@ -63,12 +61,12 @@ fn order_numbers(bytes: &[u8]) -> OrderNumbers
     ensures { λ r. ⌜ r ≡ orderNumbers (now (bytes .entry)) ⌝ }
 {
     OrderNumbers {
-        account: bytes[1],
-        asset: bytes[2],
-        date: bytes[3],
-        side: bytes[4],
-        quantity: number::n8_at(bytes, 5),
-        money: number::n8_at(bytes, 13),
+        account: bytes[in_frame::ACCOUNT],
+        asset: bytes[in_frame::ASSET],
+        date: bytes[in_frame::DATE],
+        side: bytes[in_frame::SIDE],
+        quantity: number::n8_at(bytes, in_frame::QUANTITY),
+        money: number::n8_at(bytes, in_frame::MONEY),
     }
 }
 
@@ -76,29 +74,33 @@ fn order_numbers(bytes: &[u8]) -> OrderNumbers
 fn read_frame(bytes: &[u8]) -> Frame
     ensures { λ r. ⌜ r ≡ frameOf (now (bytes .entry)) ⌝ }
 {
-    if is_shaped(bytes, 11, 1) {
+    if is_shaped(bytes, in_frame::PARAMETER_LENGTH, in_frame::PARAMETER_KIND) {
         return Frame::Parameter {
-            place: number::two_at(bytes, 1) as usize,
-            number: number::n8_at(bytes, 3),
+            place: number::two_at(bytes, in_frame::PLACE) as usize,
+            number: number::n8_at(bytes, in_frame::NUMBER),
         };
     }
-    if is_shaped(bytes, 3, 2) {
+    if is_shaped(bytes, in_frame::OPEN_LENGTH, in_frame::OPEN_KIND) {
         return Frame::Open {
-            account: bytes[1],
-            kind: bytes[2],
+            account: bytes[in_frame::ACCOUNT],
+            kind: bytes[in_frame::ACCOUNT_KIND],
         };
     }
-    if is_shaped(bytes, 11, 3) {
+    if is_shaped(bytes, in_frame::MOVE_LENGTH, in_frame::MOVE_KIND) {
         return Frame::Move(move_numbers(bytes));
     }
-    if is_shaped(bytes, 21, 4) {
+    if is_shaped(bytes, in_frame::ORDER_LENGTH, in_frame::ORDER_KIND) {
         return Frame::Order(order_numbers(bytes));
     }
-    if is_shaped(bytes, 2, 5) {
-        return Frame::Roll { account: bytes[1] };
+    if is_shaped(bytes, in_frame::ACCOUNT_LENGTH, in_frame::ROLL_KIND) {
+        return Frame::Roll {
+            account: bytes[in_frame::ACCOUNT],
+        };
     }
-    if is_shaped(bytes, 2, 6) {
-        return Frame::Report { account: bytes[1] };
+    if is_shaped(bytes, in_frame::ACCOUNT_LENGTH, in_frame::REPORT_KIND) {
+        return Frame::Report {
+            account: bytes[in_frame::ACCOUNT],
+        };
     }
     Frame::Malformed
 }
@@ -107,10 +109,10 @@ fn read_frame(bytes: &[u8]) -> Frame
 pub fn frame_of(line: &[u8]) -> Frame
     ensures { λ r. ⌜ r ≡ lineFrame (now (line .entry)) ⌝ }
 {
-    if line.len() > 2 * LONGEST {
+    if line.len() > 2 * in_frame::ORDER_LENGTH {
         return Frame::Malformed;
     }
-    let mut bytes = [0u8; LONGEST];
+    let mut bytes = [0u8; in_frame::ORDER_LENGTH];
     if hex::unhex(line, &mut bytes) {
         return read_frame(&bytes[..line.len() / 2]);
     }

@@ -6,23 +6,37 @@ ghost use Rattle.frames.specs.Hex.{digitValue, isHex, bytesOf};
 
 // Lower-case hexadecimal to the bytes that it writes.
 
+// The digits as bytes: those of 0 to 9 and of a to f follow each other. LETTERS is that of a, less ten.
+pub(crate) const DIGITS: u8 = 48;
+
+const PAST_9: u8 = 58;
+
+const A: u8 = 97;
+
+const PAST_F: u8 = 103;
+
+pub(crate) const LETTERS: u8 = A - 10;
+
+// What no digit has the value of, and how many values there are.
+pub(crate) const BASE: u8 = 16;
+
 // The value of a digit; 16 for any other byte.
 fn digit_value(b: u8) -> u8
     ensures { λ r. ⌜ (r ≡ digitValue b) × (r ≤ 16) ⌝ }
 {
-    if b < 48 {
-        return 16;
+    if b < DIGITS {
+        return BASE;
     }
-    if b < 58 {
-        return b - 48;
+    if b < PAST_9 {
+        return b - DIGITS;
     }
-    if b < 97 {
-        return 16;
+    if b < A {
+        return BASE;
     }
-    if b < 103 {
-        return b - 87;
+    if b < PAST_F {
+        return b - LETTERS;
     }
-    16
+    BASE
 }
 
 // Whether the line writes whole bytes; if so they stand at the start of `bytes`.
@@ -36,13 +50,13 @@ pub(crate) fn unhex(line: &[u8], bytes: &mut [u8]) -> bool
     while i + 1 < line.len() {
         let high = digit_value(line[i]);
         let low = digit_value(line[i + 1]);
-        if high == 16 {
+        if high == BASE {
             return false;
         }
-        if low == 16 {
+        if low == BASE {
             return false;
         }
-        bytes[k] = high * 16 + low;
+        bytes[k] = high * BASE + low;
         i += 2;
         k += 1;
     }

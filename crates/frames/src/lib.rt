@@ -1,8 +1,10 @@
 mod answer;
 mod frame;
 mod hex;
+mod in_frame;
 mod number;
 
+pub use answer::NEWLINE;
 pub use answer::put_answer;
 pub use frame::Frame;
 pub use frame::MoveNumbers;

@@ -7,11 +7,21 @@ ghost use Rattle.frames.specs.Number.{two, four, eight, n8At};
 
 // Numbers as bytes, high first; n8 is two's complement.
 
+// How many numbers one, two and four bytes write.
+pub(crate) const BYTE: u64 = 256;
+
+pub(crate) const TWO_BYTES: u64 = BYTE * BYTE;
+
+pub(crate) const FOUR_BYTES: u64 = TWO_BYTES * TWO_BYTES;
+
+// The bits of the lowest number.
+const SIGN: u64 = 9223372036854775808;
+
 // The signed number whose bits are u.
 fn signed(u: u64) -> i64
     ensures { λ r. ⌜ (r ≡ toZ w64 u) × SFits w64 r ⌝ }
 {
-    if u < 9223372036854775808 {
+    if u < SIGN {
         u as i64
     } else {
         let m = u64::MAX - u;
@@ -43,21 +53,21 @@ pub(crate) fn two_at(bytes: &[u8], k: usize) -> u64
     requires { ⌜ k + 2 ≤ length (now bytes) ⌝ }
     ensures { λ r. ⌜ (r ≡ two (now (bytes .entry)) k) × (r < 65536) ⌝ }
 {
-    wide(bytes[k]) * 256 + wide(bytes[k + 1])
+    wide(bytes[k]) * BYTE + wide(bytes[k + 1])
 }
 
 fn four_at(bytes: &[u8], k: usize) -> u64
     requires { ⌜ k + 4 ≤ length (now bytes) ⌝ }
     ensures { λ r. ⌜ (r ≡ four (now (bytes .entry)) k) × (r < 4294967296) ⌝ }
 {
-    two_at(bytes, k) * 65536 + two_at(bytes, k + 2)
+    two_at(bytes, k) * TWO_BYTES + two_at(bytes, k + 2)
 }
 
 fn eight_at(bytes: &[u8], k: usize) -> u64
     requires { ⌜ k + 8 ≤ length (now bytes) ⌝ }
     ensures { λ r. ⌜ r ≡ eight (now (bytes .entry)) k ⌝ }
 {
-    four_at(bytes, k) * 4294967296 + four_at(bytes, k + 4)
+    four_at(bytes, k) * FOUR_BYTES + four_at(bytes, k + 4)
 }
 
 // The number that the n8 from place k on writes.

@@ -14,6 +14,7 @@ use Rattle.whole.proofs.Parts.{part-length}
 use Rattle.rates.specs.Units.{assets, rowLength, tableLength, dates, groupCount}
 use Rattle.rates.specs.Row.{unlisted}
 use Rattle.rates.specs.Rules.{termMarks, rateMarks, limitMarks, dateMarks, listedMarks, rowMarks}
+use Rattle.rates.specs.Lent.{Tables}
 use Rattle.rates.specs.Tables.{rowOf, absent, ownKindRight, ownRowMarks, percentRight, clearingMarks, ownMarks, tableMarks}
 
 either : (t : Bool) (a b : List Bool) (n : ℕ) → length a ≡ n → length b ≡ n → length (cond t a b) ≡ n
@@ -82,8 +83,8 @@ module _ (clearing own : List ℤ) (long : length own ≡ tableLength) where
   pub own-count : length (pieces (ownMarks clearing own) 0 assets) ≡ tableLength
   own-count = pieces-length (ownMarks clearing own) rowLength 0 assets own-marks-count
 
-pub table-count : (clearing own groups : List ℤ) → length clearing ≡ tableLength → length own ≡ tableLength → length groups ≡ groupCount
-    → length (tableMarks clearing own groups) ≡ 2056
+pub table-count : (tables : Tables) → length (tables .clearing) ≡ tableLength → length (tables .own) ≡ tableLength → length (tables .groups) ≡ groupCount
+    → length (tableMarks tables) ≡ 2056
 unfolding tableMarks
-table-count clearing own groups lc lo lg =
-    simp length-append (omega (arith, clearing-count clearing lc, own-count clearing own lo, length-map groups percentRight))
+table-count tables lc lo lg =
+    simp length-append (omega (arith, clearing-count (tables .clearing) lc, own-count (tables .clearing) (tables .own) lo, length-map (tables .groups) percentRight))

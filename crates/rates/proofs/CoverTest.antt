@@ -19,21 +19,21 @@ use Rattle.whole.proofs.Rounding.{up-least}
 use Rattle.whole.proofs.Rules.{ints}
 use Rattle.whole.proofs.Tests.{and-right}
 use Rattle.rates.specs.Units.{theWhole}
-use Rattle.rates.specs.Row.{unlisted, price, fall, raisedRate, mid, outerLow, outerUp, level}
+use Rattle.rates.specs.Row.{unlisted, price, fall, highestRate, mid, outerLow, outerUp, level}
 use Rattle.rates.specs.InForce.{outerWidth, coverTest}
 use Rattle.rates.specs.Ranges.{DateRanges, RowRanges}
 
 -- ---- what it says
-pub cover-says : (row : List ℤ) → coverTest row ≡ true → (raisedRate row fall *ℤ price row) ≤ℤ (theWhole *ℤ (level row 0 -ℤ outerWidth row 0))
+pub cover-says : (row : List ℤ) → coverTest row ≡ true → (highestRate row fall *ℤ price row) ≤ℤ (theWhole *ℤ (level row 0 -ℤ outerWidth row 0))
 unfolding coverTest
 cover-says row e =
-    let test = and-right (not (unlisted row)) (leZ (raisedRate row fall *ℤ price row) (theWhole *ℤ (level row 0 -ℤ outerWidth row 0))) e in omega ints
+    let test = and-right (not (unlisted row)) (leZ (highestRate row fall *ℤ price row) (theWhole *ℤ (level row 0 -ℤ outerWidth row 0))) e in omega ints
 
--- it pays for the raised fall rate of n units, rounded up, out of what δ units have left, where n is at most δ
+-- it pays for the highest rate of a fall of n units, rounded up, out of what δ units have left, where n is at most δ
 pub cover-pays : (row : List ℤ) → RowRanges row → coverTest row ≡ true → (n δ : ℤ) → n ≤ℤ δ → pos 0 ≤ℤ δ
-    → dividedUp (raisedRate row fall *ℤ n *ℤ price row) 10000 ≤ℤ (δ *ℤ (level row 0 -ℤ outerWidth row 0))
+    → dividedUp (highestRate row fall *ℤ n *ℤ price row) 10000 ≤ℤ (δ *ℤ (level row 0 -ℤ outerWidth row 0))
 cover-pays row r e n δ h z =
-    let R = raisedRate row fall in
+    let R = highestRate row fall in
     let q = price row in
     let left = level row 0 -ℤ outerWidth row 0 in
     let charged = R *ℤ n *ℤ q in
@@ -43,12 +43,12 @@ cover-pays row r e n δ h z =
     (le! (var charged) (lit 10000 ⊛ (var δ ⊛ var left))
     (omega (
       arith,
-      le? (var charged) (var most) (*ℤ-monoʳ q (R *ℤ n) (R *ℤ δ) (r .price-upto .low) (*ℤ-mono R n δ (r .side fall (omega arith) .raised-upto .low) h)),
+      le? (var charged) (var most) (*ℤ-monoʳ q (R *ℤ n) (R *ℤ δ) (r .price-upto .low) (*ℤ-mono R n δ (r .side fall (omega arith) .highest-upto .low) h)),
       eq? (var most) (var turned) (eq! (var R ⊛ var δ ⊛ var q) (var R ⊛ var q ⊛ var δ) (omega arith)),
       le? (var turned) (lit 10000 ⊛ var left ⊛ var δ) (*ℤ-monoʳ δ (R *ℤ q) (theWhole *ℤ left) z (cover-says row e)),
     )))
 
--- ---- as code works it out
+-- ---- as code works it out: no step leaves the range, and the test is the definition's
 module _ (row : List ℤ) (r : RowRanges row) where
   today : DateRanges row 0
   today = r .date 0 (omega arith)
@@ -85,19 +85,22 @@ module _ (row : List ℤ) (r : RowRanges row) where
       record { low = le! (lit 0) (below ⊔ above) (omega ints); high = le! (below ⊔ above) (lit 10000000) (omega ints); fits = fits! (below ⊔ above) (omega ints) }
 
   -- ---- the two sides: the charge of a fall, and what is left of the level
-  abbrev charge : Expression
-  charge = var (raisedRate row fall) ⊛ var (price row)
+  module _ (rate : ℤ) (most : rate upto 10000) where
+    abbrev charge : Expression
+    charge = var rate ⊛ var (price row)
 
-  charge-runs : Runs charge
-  charge-runs =
-      let x = r .side fall (omega arith) .raised-upto in
-      let p = product-within (upto-within x) (upto-within (r .price-upto)) (omega arith) in
-      (x .fits .sfits, r .price-upto .fits .sfits, omega (ints, is charge))
+    charge-runs : Runs charge
+    charge-runs =
+        let p = product-within (upto-within most) (upto-within (r .price-upto)) (omega arith) in
+        (most .fits .sfits, r .price-upto .fits .sfits, omega (ints, is charge))
 
-  pub charge-fits : SFits w64 (back (raisedRate row fall) *ℤ back (price row))
-  charge-fits = need! charge charge-runs
+    pub charge-fits : SFits w64 (back rate *ℤ back (price row))
+    charge-fits = need! charge charge-runs
 
-  module _ (w : ℤ) (h : w upto 10000000) where
+  pub level-fits : SFits w64 (back (price row) +ℤ back (mid row 0))
+  level-fits = let p = r .price-upto in let m = today .mid-within in need! (var (price row) ⊕ var (mid row 0)) (p .fits .sfits, m .fits .sfits, omega ints)
+
+  module _ (w : ℤ) (wide : w upto 10000000) where
     abbrev left : Expression
     left = lit 10000 ⊛ (var (price row) ⊕ var (mid row 0) ⊖ var w)
 
@@ -105,10 +108,7 @@ module _ (row : List ℤ) (r : RowRanges row) where
     left-runs =
         let p = r .price-upto in
         let m = today .mid-within in
-        (omega arith, ((p .fits .sfits, m .fits .sfits, omega ints), h .fits .sfits, omega ints), omega ints)
-
-    pub level-fits : SFits w64 (back (price row) +ℤ back (mid row 0))
-    level-fits = need! (var (price row) ⊕ var (mid row 0)) (left-runs .1 .0)
+        (omega arith, ((p .fits .sfits, m .fits .sfits, omega ints), wide .fits .sfits, omega ints), omega ints)
 
     pub lower-fits : SFits w64 (back (back (price row) +ℤ back (mid row 0)) -ℤ back w)
     lower-fits = need! (var (price row) ⊕ var (mid row 0) ⊖ var w) (left-runs .1)
@@ -116,6 +116,9 @@ module _ (row : List ℤ) (r : RowRanges row) where
     pub left-fits : SFits w64 (theWhole *ℤ back (back (back (price row) +ℤ back (mid row 0)) -ℤ back w))
     left-fits = need! left left-runs
 
-    pub test-back : leZ (back (back (raisedRate row fall) *ℤ back (price row))) (back (theWhole *ℤ back (back (back (price row) +ℤ back (mid row 0)) -ℤ back w)))
-        ≡ leZ (raisedRate row fall *ℤ price row) (theWhole *ℤ (level row 0 -ℤ w))
-    test-back = ap₂ leZ (runs charge charge-runs) (runs left left-runs)
+  pub test-back : {rate w : ℤ} → rate upto 10000 → w upto 10000000
+      → leZ (back (back rate *ℤ back (price row))) (back (theWhole *ℤ back (back (back (price row) +ℤ back (mid row 0)) -ℤ back w)))
+      ≡ leZ (rate *ℤ price row) (theWhole *ℤ (level row 0 -ℤ w))
+  test-back {rate} {w} most wide = ap₂ leZ (runs (charge rate most) (charge-runs rate most)) (runs (left w wide) (left-runs w wide))
+
+pub ruleset fits = (charge-fits, level-fits, lower-fits, left-fits)

@@ -5,7 +5,7 @@ use mathlib.Core.List.{List}
 use Prim.Native.Nat.{ℕ}
 use native.Mathlib.Omega.{arith}
 use lib.IntN.{ℤ, _+ℤ_, _-ℤ_}
-use lib.Signed.{_≤ℤ_}
+use lib.Signed.{_≤ℤ_, ≤ℤ-refl}
 use Rattle.whole.specs.Bounds.{between, _within_, _upto_}
 use Rattle.whole.specs.Marks.{allTrue}
 use Rattle.whole.proofs.Expressions.{var, lit, _⊕_, _⊖_, le!, le?}
@@ -15,7 +15,7 @@ use Rattle.whole.proofs.Bounds.{amid, upto-by}
 use Rattle.whole.proofs.Marks.{all-at}
 use Rattle.whole.proofs.Rules.{ints}
 use Rattle.rates.specs.Units.{tenMillion, theWhole}
-use Rattle.rates.specs.Row.{price, baseRate, raisedRate, mid, low, up, outerLow, outerUp}
+use Rattle.rates.specs.Row.{price, baseRate, raisedRate, highestRate, mid, low, up, outerLow, outerUp}
 use Rattle.rates.specs.Rules.{dateMarks}
 use Rattle.rates.specs.Ranges.{DateRanges, SideRanges}
 
@@ -74,4 +74,14 @@ module _ (row : List ℤ) where
       }
 
   pub side-ranges : (s : ℕ) → baseRate row s upto 10000 → between (baseRate row s) (raisedRate row s) theWhole ≡ true → SideRanges row s
-  side-ranges s b e = record { base-upto = b; raised-upto = raised-upto (baseRate row s) (raisedRate row s) b e; base-raised = amid e .from }
+  unfolding highestRate
+  side-ranges s b e =
+      let raised = raised-upto (baseRate row s) (raisedRate row s) b e in
+      record {
+        base-upto = b;
+        raised-upto = raised;
+        highest-upto = raised;
+        base-raised = amid e .from;
+        base-highest = amid e .from;
+        raised-highest = ≤ℤ-refl (raisedRate row s);
+      }

@@ -5,31 +5,23 @@ use mathlib.Core.Path.{_≡_, refl}
 use mathlib.Core.Bool.{true, false}
 use mathlib.Core.List.{List, [], _∷_, _++_, map}
 use Prim.Native.Nat.{ℕ}
-use lib.IntN.{ℤ, pos, negℤ}
+use lib.IntN.{ℤ, pos}
 use lib.ListN.{drop, replicate, set}
 use Rattle.whole.specs.Numbers.{maxℤ}
 use Rattle.whole.specs.Bounds.{between}
 use Rattle.whole.specs.Parts.{part}
-use Rattle.whole.specs.Marks.{firstFalse, allTrue, pieces}
+use Rattle.whole.specs.Marks.{firstFalse, allTrue, allZero, pieces}
 use Rattle.whole.specs.Refusals.{firstCode}
 use Rattle.rates.specs.Units.{rowLength}
+use Rattle.rates.specs.Row.{highestRate}
+use Rattle.rates.specs.RowA.{less, rowA}
 use Rattle.rates.specs.Rules.{termMarks, rateMarks, limitMarks, dateMarks, listedMarks, rowMarks}
-use Rattle.rates.specs.Tables.{absent, ownKindRight, ownRowMarks, clearingMarks, ownMarks, tableMarks, lengthsRight, soundTables, checkCode, checkPlace, checked}
+use Rattle.rates.specs.Lent.{Tables}
+use Rattle.rates.specs.Tables.{ownKindRight, ownRowMarks, clearingMarks, ownMarks, tableMarks, lengthsRight, soundTables, checkCode, checkPlace, checked}
 use Rattle.rates.specs.InForce.{outerWidth, coverTest, soundRow}
-use Rattle.rates.specs.declared.Checked.{Checked}
-
-abbrev minus : ℕ → ℤ
-minus n = negℤ (pos n)
+use Rattle.rates.specs.declared.tables.Checked.{Checked}
 
 -- ---- rows
-abbrev date : List ℤ
-date = pos 0 ∷ minus 100 ∷ pos 200 ∷ minus 200 ∷ pos 300 ∷ []
-
-abbrev rowA : List ℤ
-rowA =
-    pos 1 ∷ pos 10000 ∷ pos 5000 ∷ pos 10000 ∷ pos 0 ∷ pos 0 ∷ pos 2000 ∷ pos 3000 ∷ pos 4000 ∷ pos 5000 ∷ pos 100 ∷ pos 100 ∷ pos 1 ∷ pos 0 ∷ pos 0 ∷ pos 0
-    ∷ date ++ date ++ date ++ date ++ date ++ date ++ date ++ date ++ replicate 8 (pos 0)
-
 abbrev rowWith : ℕ → ℤ → List ℤ
 rowWith k x = set rowA k x
 
@@ -54,21 +46,21 @@ named c = firstFalse (rowMarks (set (c .row) (c .at) (c .put)))
 -- one number that breaks its rule, by rising number; of a date those of date 0, one mid of date 2 and the last number
 abbrev broken : List Change
 broken =
-    inA 0 (pos 4) ∷ inA 0 (minus 1)
+    inA 0 (pos 4) ∷ inA 0 (less 1)
     ∷ inA 1 (pos 0) ∷ inA 1 (pos 10000001)
-    ∷ inA 2 (pos 10001) ∷ inA 3 (minus 1)
+    ∷ inA 2 (pos 10001) ∷ inA 3 (less 1)
     ∷ inA 4 (pos 3) ∷ inA 5 (pos 2)
-    ∷ inA 6 (pos 10001) ∷ inA 7 (minus 1) ∷ record { row = commodity; at = 7; put = pos 2001 }
+    ∷ inA 6 (pos 10001) ∷ inA 7 (less 1) ∷ record { row = commodity; at = 7; put = pos 2001 }
     ∷ inA 8 (pos 1999) ∷ inA 8 (pos 10001) ∷ inA 9 (pos 2999) ∷ record { row = commodity; at = 9; put = pos 4001 }
-    ∷ inA 10 (pos 10000001) ∷ inA 11 (minus 1) ∷ inA 12 (pos 9)
-    ∷ inA 13 (pos 1) ∷ inA 14 (pos 1) ∷ inA 15 (minus 1)
-    ∷ inA 16 (minus 10001) ∷ inA 26 (pos 9990001)
-    ∷ inA 17 (pos 1) ∷ inA 17 (minus 10000001)
-    ∷ inA 18 (minus 1) ∷ inA 18 (pos 10000001)
-    ∷ inA 19 (minus 99) ∷ inA 19 (minus 10000001)
+    ∷ inA 10 (pos 10000001) ∷ inA 11 (less 1) ∷ inA 12 (pos 9)
+    ∷ inA 13 (pos 1) ∷ inA 14 (pos 1) ∷ inA 15 (less 1)
+    ∷ inA 16 (less 10001) ∷ inA 26 (pos 9990001)
+    ∷ inA 17 (pos 1) ∷ inA 17 (less 10000001)
+    ∷ inA 18 (less 1) ∷ inA 18 (pos 10000001)
+    ∷ inA 19 (less 99) ∷ inA 19 (less 10000001)
     ∷ inA 20 (pos 199) ∷ inA 20 (pos 10000001) ∷ inA 55 (pos 199)
-    ∷ inA 56 (pos 1) ∷ inA 63 (minus 1)
-    ∷ record { row = unlistedRow; at = 1; put = pos 1 } ∷ record { row = unlistedRow; at = 63; put = minus 1 }
+    ∷ inA 56 (pos 1) ∷ inA 63 (less 1)
+    ∷ record { row = unlistedRow; at = 1; put = pos 1 } ∷ record { row = unlistedRow; at = 63; put = less 1 }
     ∷ []
 
 broken-number-named : map named broken ≡ map (λ (c : Change). c .at) broken
@@ -79,7 +71,7 @@ broken-number-named = refl
 abbrev kept : List (List ℤ)
 kept =
     rowA ∷ commodity ∷ unlistedRow ∷ rowWith 1 (pos 1) ∷ rowWith 1 (pos 10000000) ∷ rowWith 4 (pos 2) ∷ rowWith 8 (pos 2000) ∷ rowWith 8 (pos 10000) ∷ rowWith 12 (pos 8)
-    ∷ rowWith 17 (pos 0) ∷ rowWith 18 (pos 0) ∷ rowWith 19 (minus 10000000) ∷ rowWith 20 (pos 10000000) ∷ []
+    ∷ rowWith 17 (pos 0) ∷ rowWith 18 (pos 0) ∷ rowWith 19 (less 10000000) ∷ rowWith 20 (pos 10000000) ∷ []
 
 sound-rows : map soundRow kept ≡ map (λ (row : List ℤ). true) kept
 unfolding allTrue pieces between termMarks rateMarks limitMarks dateMarks listedMarks rowMarks soundRow
@@ -87,7 +79,7 @@ sound-rows = refl
 
 -- row A passes the cover test, with raised fall 9,700 it still does, with 9,800 not; an unlisted row does not
 cover-tests : map coverTest (rowA ∷ rowWith 8 (pos 9700) ∷ rowWith 8 (pos 9800) ∷ unlistedRow ∷ []) ≡ true ∷ true ∷ false ∷ false ∷ []
-unfolding between maxℤ outerWidth coverTest
+unfolding between maxℤ highestRate outerWidth coverTest
 cover-tests = refl
 
 -- ---- whole tables, with one row at asset 1
@@ -97,19 +89,17 @@ table row = unlistedRow ++ row ++ replicate 896 (pos 0)
 abbrev percents : List ℤ
 percents = pos 25 ∷ replicate 7 (pos 50)
 
-record Lent : Type 0 where
-  clearing : List ℤ
-  own : List ℤ
-  groups : List ℤ
+record Call : Type 0 where
+  tables : Tables
   answer : Checked
 
-abbrev lent : List ℤ → List ℤ → List ℤ → ℕ → ℕ → Lent
+abbrev lent : List ℤ → List ℤ → List ℤ → ℕ → ℕ → Call
 lent clearing own groups code place =
-    record { clearing = table clearing; own = table own; groups = groups; answer = record { code = code; place = place } }
+    record { tables = record { clearing = table clearing; own = table own; groups = groups }; answer = record { code = code; place = place } }
 
 -- sound; a broken number of the clearing row, before one of the own row; one of the own row; an own row of another kind, one of kind 0, one over an
 -- unlisted row, and one of kind 0 there; percents of 51 and −1; a number too few in each of the three
-abbrev calls : List Lent
+abbrev calls : List Call
 calls =
     lent rowA (rowWith 1 (pos 9000)) percents 0 0
     ∷ lent (rowWith 8 (pos 1999)) (rowWith 63 (pos 1)) percents 2 72
@@ -119,12 +109,12 @@ calls =
     ∷ lent unlistedRow rowA percents 2 1088
     ∷ lent unlistedRow (rowWith 0 (pos 0)) percents 2 1088
     ∷ lent rowA unlistedRow (set percents 7 (pos 51)) 2 2055
-    ∷ lent rowA rowA (set percents 0 (minus 1)) 2 2048
+    ∷ lent rowA rowA (set percents 0 (less 1)) 2 2048
     ∷ lent (drop 1 rowA) rowA percents 1 0
     ∷ lent rowA (drop 1 rowA) percents 1 0
     ∷ lent rowA rowA (drop 1 percents) 1 0
     ∷ []
 
-answers : map (λ (l : Lent). checked (l .clearing) (l .own) (l .groups)) calls ≡ map (λ (l : Lent). l .answer) calls
-unfolding firstFalse allTrue pieces between part firstCode termMarks rateMarks limitMarks dateMarks listedMarks rowMarks absent ownKindRight ownRowMarks clearingMarks ownMarks tableMarks lengthsRight soundTables checkCode checkPlace checked
+answers : map (λ (c : Call). checked (c .tables)) calls ≡ map (λ (c : Call). c .answer) calls
+unfolding firstFalse allTrue allZero pieces between part firstCode termMarks rateMarks limitMarks dateMarks listedMarks rowMarks ownKindRight ownRowMarks clearingMarks ownMarks tableMarks lengthsRight soundTables checkCode checkPlace checked
 answers = refl

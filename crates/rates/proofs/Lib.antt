@@ -1,5 +1,4 @@
 -- Laws of a row's rules, of the tables, and of what the table check gives; and computed examples.
-pub mod Comparisons
 pub mod Counts
 pub mod Answer
 pub mod DateRanges
@@ -8,4 +7,3 @@ pub mod CoverTest
 pub mod Lookup
 pub mod Sound
 pub mod Examples
-pub mod Listed

@@ -1,5 +1,5 @@
 -- What a caller learns from code 0 of the table check: the lengths; of each asset, that its row in force is in its ranges, has the kind of its clearing
--- row, is what the lookup hands back, and is listed if it passes the cover test; of each group, that its percent is right.
+-- row, and is listed if it passes the cover test; of each group, that its percent is right.
 -- Assumes nothing.
 use mathlib.Core.Path.{_≡_, refl, sym, ap, _∙_}
 use mathlib.Core.Bool.{Bool, true, false, not, cond}
@@ -10,8 +10,7 @@ use lib.IntN.{ℤ, pos}
 use lib.ListN.{length, replicate}
 use lib.Dec.{eqb}
 use borrow.Author.Tests.{eqb-true, lt-ltb}
-use Rattle.whole.specs.Parts.{number}
-use Rattle.whole.specs.Bounds.{between, isZero, _upto_}
+use Rattle.whole.specs.Bounds.{between, isZero}
 use Rattle.whole.specs.Marks.{allTrue, pieces}
 use Rattle.whole.proofs.Bounds.{equal-says, upto-by}
 use Rattle.whole.proofs.Tests.{and-left, and-right, true-not-false}
@@ -19,13 +18,14 @@ use Rattle.whole.proofs.Marks.{all-left, all-right, all-piece, all-numbers}
 use Rattle.rates.specs.Units.{assets, rowLength, tableLength, groupCount}
 use Rattle.rates.specs.Row.{kind, unlisted}
 use Rattle.rates.specs.Rules.{rowMarks}
+use Rattle.rates.specs.Lent.{Tables}
 use Rattle.rates.specs.Tables.{rowOf, listed, absent, ownKindRight, ownRowMarks, percentRight, clearingMarks, ownMarks, tableMarks, lengthsRight, soundTables, checkCode}
-use Rattle.rates.specs.InForce.{inForce, lookup, coverTest, soundRow}
+use Rattle.rates.specs.InForce.{inForce, coverTest, soundRow}
 use Rattle.rates.specs.Ranges.{RowRanges, TableRanges}
 use Rattle.rates.proofs.Counts.{row-long}
 use Rattle.rates.proofs.Answer.{code-0-says}
 use Rattle.rates.proofs.Ranges.{row-ranges}
-use Rattle.rates.proofs.Lookup.{from-own, from-clearing, in-force}
+use Rattle.rates.proofs.Lookup.{from-own, from-clearing}
 
 -- ---- a present own row whose marks are true: it has the clearing row's kind, and keeps the rules of a row
 module _ (own clearing : List ℤ) (present : absent own ≡ false) (e : allTrue (ownRowMarks own clearing) ≡ true) where
@@ -47,8 +47,23 @@ sound-row : (row : List ℤ) → length row ≡ rowLength → allTrue (rowMarks 
 unfolding soundRow
 sound-row row long e = row-ranges row (rw (long, e) refl)
 
-module _ (clearing own groups : List ℤ) where
-  module _ (lengths : lengthsRight clearing own groups ≡ true) (sound : soundTables clearing own groups ≡ true) where
+module _ (tables : Tables) where
+  abbrev clearing : List ℤ
+  clearing = tables .clearing
+
+  abbrev own : List ℤ
+  own = tables .own
+
+  abbrev groups : List ℤ
+  groups = tables .groups
+
+  module _ (passed : checkCode tables ≡ 0) where
+    lengths : lengthsRight tables ≡ true
+    lengths = code-0-says tables passed .0
+
+    sound : soundTables tables ≡ true
+    sound = code-0-says tables passed .1
+
     long-clearing : length clearing ≡ tableLength
     unfolding lengthsRight
     long-clearing = eqb-true (length clearing) tableLength (and-left _ _ lengths)
@@ -65,60 +80,47 @@ module _ (clearing own groups : List ℤ) where
     unfolding soundTables tableMarks
     past-clearing = all-right (pieces (clearingMarks clearing) 0 assets) _ sound
 
-    clearing-right : (a : ℕ) → a < assets → allTrue (rowMarks (rowOf clearing a)) ≡ true
-    unfolding soundTables tableMarks clearingMarks
-    clearing-right a h =
-        all-piece (clearingMarks clearing) 0 assets a (omega arith) (omega arith)
-        (all-left _ (pieces (ownMarks clearing own) 0 assets ++ map percentRight groups) sound)
+    percents-right : allTrue (map percentRight groups) ≡ true
+    percents-right = all-right (pieces (ownMarks clearing own) 0 assets) _ past-clearing
 
-    own-row-right : (a : ℕ) → a < assets → allTrue (ownRowMarks (rowOf own a) (rowOf clearing a)) ≡ true
-    unfolding ownMarks
-    own-row-right a h = all-piece (ownMarks clearing own) 0 assets a (omega arith) (omega arith) (all-left _ (map percentRight groups) past-clearing)
+    module _ (a : ℕ) (h : a < assets) where
+      clearing-right : allTrue (rowMarks (rowOf clearing a)) ≡ true
+      unfolding soundTables tableMarks clearingMarks
+      clearing-right =
+          all-piece (clearingMarks clearing) 0 assets a (omega arith) (omega arith)
+          (all-left _ (pieces (ownMarks clearing own) 0 assets ++ map percentRight groups) sound)
 
-    row-in-ranges : (a : ℕ) → a < assets → RowRanges (inForce clearing own a)
-    row-in-ranges a h = by (absent (rowOf own a)) refl
-      where
-        by : (b : Bool) → absent (rowOf own a) ≡ b → RowRanges (inForce clearing own a)
-        by true e = rw (from-clearing clearing own a e) (sound-row (rowOf clearing a) (row-long clearing long-clearing a h) (clearing-right a h))
-        by false e = rw (from-own clearing own a e)
-            (sound-row (rowOf own a) (row-long own long-own a h) (own-right (rowOf own a) (rowOf clearing a) e (own-row-right a h) .1))
+      own-row-right : allTrue (ownRowMarks (rowOf own a) (rowOf clearing a)) ≡ true
+      unfolding ownMarks
+      own-row-right = all-piece (ownMarks clearing own) 0 assets a (omega arith) (omega arith) (all-left _ (map percentRight groups) past-clearing)
 
-    row-kind : (a : ℕ) → a < assets → kind (inForce clearing own a) ≡ kind (rowOf clearing a)
-    row-kind a h = by (absent (rowOf own a)) refl
-      where
-        by : (b : Bool) → absent (rowOf own a) ≡ b → kind (inForce clearing own a) ≡ kind (rowOf clearing a)
-        by true e = ap kind (from-clearing clearing own a e)
-        by false e = ap kind (from-own clearing own a e) ∙ own-kind (rowOf own a) (rowOf clearing a) e (own-row-right a h)
+      row-in-ranges : RowRanges (inForce clearing own a)
+      row-in-ranges = by (absent (rowOf own a)) refl
+        where
+          by : (b : Bool) → absent (rowOf own a) ≡ b → RowRanges (inForce clearing own a)
+          by true e = rw (from-clearing clearing own a e) (sound-row (rowOf clearing a) (row-long clearing long-clearing a h) clearing-right)
+          by false e = rw (from-own clearing own a e) (sound-row (rowOf own a) (row-long own long-own a h) (own-right (rowOf own a) (rowOf clearing a) e own-row-right .1))
 
-    percents : (g : ℕ) → number groups g upto 50
+      pub same-kind : kind (inForce clearing own a) ≡ kind (rowOf clearing a)
+      same-kind = by (absent (rowOf own a)) refl
+        where
+          by : (b : Bool) → absent (rowOf own a) ≡ b → kind (inForce clearing own a) ≡ kind (rowOf clearing a)
+          by true e = ap kind (from-clearing clearing own a e)
+          by false e = ap kind (from-own clearing own a e) ∙ own-kind (rowOf own a) (rowOf clearing a) e own-row-right
+
+      -- an asset whose row in force passes the cover test is listed
+      pub cover-listed : coverTest (inForce clearing own a) ≡ true → listed clearing a ≡ true
+      unfolding coverTest listed
+      cover-listed e =
+          rw (lt-ltb a assets h) (ap (λ (k : ℤ). not (isZero k)) (sym same-kind) ∙ and-left (not (unlisted (inForce clearing own a))) _ e)
+
+    pub ranges : TableRanges tables
     unfolding between
-    percents g = upto-by (omega arith) (all-numbers percentRight groups (pos 0) refl (all-right (pieces (ownMarks clearing own) 0 assets) _ past-clearing) g)
-
-    table-ranges : TableRanges clearing own groups
-    table-ranges =
+    ranges =
         record {
           clearing-long = long-clearing;
           own-long = long-own;
           groups-long = long-groups;
           row = row-in-ranges;
-          percent = λ g h. percents g;
+          percent = λ g h. upto-by (omega arith) (all-numbers percentRight groups (pos 0) refl percents-right g);
         }
-
-  module _ (passed : checkCode clearing own groups ≡ 0) where
-    lengths-sound : (lengthsRight clearing own groups ≡ true) × (soundTables clearing own groups ≡ true)
-    lengths-sound = code-0-says clearing own groups passed
-
-    pub ranges : TableRanges clearing own groups
-    ranges = table-ranges (lengths-sound .0) (lengths-sound .1)
-
-    pub same-kind : (a : ℕ) → a < assets → kind (inForce clearing own a) ≡ kind (rowOf clearing a)
-    same-kind = row-kind (lengths-sound .0) (lengths-sound .1)
-
-    pub looked-up : (a : ℕ) → a < assets → lookup clearing own a ≡ inForce clearing own a
-    looked-up a h = in-force clearing own a (ranges .clearing-long) (ranges .own-long) h
-
-    -- an asset whose row in force passes the cover test is listed
-    pub cover-listed : (a : ℕ) → a < assets → coverTest (inForce clearing own a) ≡ true → listed clearing a ≡ true
-    unfolding coverTest listed
-    cover-listed a h e =
-        rw (lt-ltb a assets h) (ap (λ (k : ℤ). not (isZero k)) (sym (same-kind a h)) ∙ and-left (not (unlisted (inForce clearing own a))) _ e)

@@ -2,6 +2,8 @@
 pub mod Units
 pub mod Row
 pub mod Rules
+pub mod Lent
 pub mod Tables
 pub mod InForce
 pub mod Ranges
+pub mod RowA

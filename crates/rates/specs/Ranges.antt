@@ -11,8 +11,9 @@ use lib.ListN.{length}
 use Rattle.whole.specs.Bounds.{_within_, _upto_}
 use Rattle.whole.specs.Parts.{number}
 use Rattle.rates.specs.Units.{rowLength, tableLength, assets, dates, groupCount}
+use Rattle.rates.specs.Lent.{Tables}
 use Rattle.rates.specs.InForce.{inForce}
-use Rattle.rates.specs.Row.{kind, unlisted, price, acceptanceShare, poolShare, coveredSales, specialDelivery, baseRate, raisedRate, marketLimit, interestLimit, spreadGroup, mid, low, up, outerLow, outerUp, level}
+use Rattle.rates.specs.Row.{kind, unlisted, price, acceptanceShare, poolShare, coveredSales, specialDelivery, baseRate, raisedRate, highestRate, marketLimit, interestLimit, spreadGroup, mid, low, up, outerLow, outerUp, level}
 
 -- the numbers of date d: mid, what a unit is worth, and how far the others stand from the mid
 pub record DateRanges (row : List ℤ) (d : ℕ) : Type 0 where
@@ -33,7 +34,10 @@ pub record DateRanges (row : List ℤ) (d : ℕ) : Type 0 where
 pub record SideRanges (row : List ℤ) (side : ℕ) : Type 0 where
   pub base-upto : baseRate row side upto 10000
   pub raised-upto : raisedRate row side upto 10000
+  pub highest-upto : highestRate row side upto 10000
   pub base-raised : baseRate row side ≤ℤ raisedRate row side
+  pub base-highest : baseRate row side ≤ℤ highestRate row side
+  pub raised-highest : raisedRate row side ≤ℤ highestRate row side
 
 pub record RowRanges (row : List ℤ) : Type 0 where
   pub long : length row ≡ rowLength
@@ -51,9 +55,9 @@ pub record RowRanges (row : List ℤ) : Type 0 where
   pub date : (d : ℕ) → d < dates → DateRanges row d
 
 -- of tables and groups that pass the check
-pub record TableRanges (clearing own groups : List ℤ) : Type 0 where
-  pub clearing-long : length clearing ≡ tableLength
-  pub own-long : length own ≡ tableLength
-  pub groups-long : length groups ≡ groupCount
-  pub row : (a : ℕ) → a < assets → RowRanges (inForce clearing own a)
-  pub percent : (g : ℕ) → g < groupCount → number groups g upto 50
+pub record TableRanges (tables : Tables) : Type 0 where
+  pub clearing-long : length (tables .clearing) ≡ tableLength
+  pub own-long : length (tables .own) ≡ tableLength
+  pub groups-long : length (tables .groups) ≡ groupCount
+  pub row : (a : ℕ) → a < assets → RowRanges (inForce (tables .clearing) (tables .own) a)
+  pub percent : (g : ℕ) → g < groupCount → number (tables .groups) g upto 50

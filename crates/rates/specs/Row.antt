@@ -1,15 +1,19 @@
--- Document 01, "Row": each number of a row by its name. Nothing above this file says at which place a number stands.
+-- Document 01, "Row": each number of a row by its name. The other definitions speak of a row's numbers by these names and by no place.
 -- Assumes nothing.
 use mathlib.Core.Bool.{Bool}
 use mathlib.Core.List.{List}
 use Prim.Native.Nat.{ℕ, _+_, _*_}
-use lib.IntN.{ℤ, _+ℤ_}
+use lib.IntN.{ℤ, pos, _+ℤ_}
+use lib.ListN.{drop}
 use Rattle.whole.specs.Bounds.{isZero}
 use Rattle.whole.specs.Parts.{number}
 
 -- 1 security, 2 currency or metal, 3 commodity, 0 unlisted
 abbrev pub kind : List ℤ → ℤ
 kind row = number row 0
+
+abbrev pub commodity : ℤ
+commodity = pos 3
 
 abbrev pub unlisted : List ℤ → Bool
 unlisted row = isZero (kind row)
@@ -37,14 +41,24 @@ fall = 0
 abbrev pub rise : ℕ
 rise = 1
 
+abbrev pub ratesAt : ℕ
+ratesAt = 6
+
 abbrev pub baseRate : List ℤ → ℕ → ℤ
-baseRate row side = number row (6 + side)
+baseRate row side = number row (ratesAt + side)
 
 abbrev pub raisedRate : List ℤ → ℕ → ℤ
 raisedRate row side = number row (8 + side)
 
+-- the highest rate that a unit of a side can be charged
+unfoldable pub highestRate : List ℤ → ℕ → ℤ
+highestRate row side = raisedRate row side
+
+abbrev pub limitsAt : ℕ
+limitsAt = 10
+
 abbrev pub marketLimit : List ℤ → ℤ
-marketLimit row = number row 10
+marketLimit row = number row limitsAt
 
 abbrev pub interestLimit : List ℤ → ℤ
 interestLimit row = number row 11
@@ -53,21 +67,32 @@ interestLimit row = number row 11
 abbrev pub spreadGroup : List ℤ → ℤ
 spreadGroup row = number row 12
 
+-- three numbers without a meaning
+abbrev pub spare : List ℤ → ℕ → ℤ
+spare row k = number row (13 + k)
+
 -- the five numbers of date d
+abbrev pub datesAt : ℕ
+datesAt = 16
+
 abbrev pub mid : List ℤ → ℕ → ℤ
-mid row d = number row (16 + 5 * d)
+mid row d = number row (datesAt + 5 * d)
 
 abbrev pub low : List ℤ → ℕ → ℤ
-low row d = number row (16 + 5 * d + 1)
+low row d = number row (datesAt + 5 * d + 1)
 
 abbrev pub up : List ℤ → ℕ → ℤ
-up row d = number row (16 + 5 * d + 2)
+up row d = number row (datesAt + 5 * d + 2)
 
 abbrev pub outerLow : List ℤ → ℕ → ℤ
-outerLow row d = number row (16 + 5 * d + 3)
+outerLow row d = number row (datesAt + 5 * d + 3)
 
 abbrev pub outerUp : List ℤ → ℕ → ℤ
-outerUp row d = number row (16 + 5 * d + 4)
+outerUp row d = number row (datesAt + 5 * d + 4)
+
+-- and eight more numbers without a meaning
+abbrev pub rest : List ℤ → List ℤ
+rest row = drop 56 row
 
 -- what one unit is worth on date d
 abbrev pub level : List ℤ → ℕ → ℤ

@@ -3,23 +3,21 @@
 -- Assumes nothing.
 use mathlib.Core.Bool.{Bool, not, cond, _&&_, _||_}
 use mathlib.Core.List.{List, [], _∷_, _++_, map}
-use Prim.Native.Nat.{ℕ, _-_}
+use Prim.Native.Nat.{ℕ}
 use lib.IntN.{ℤ, pos, _+ℤ_, _-ℤ_}
-use lib.ListN.{drop}
 use Rattle.whole.specs.Bounds.{between, equal, isZero}
-use Rattle.whole.specs.Parts.{number}
 use Rattle.whole.specs.Marks.{pieces}
 use Rattle.rates.specs.Units.{theWhole, tenMillion, dates}
-use Rattle.rates.specs.Row.{kind, unlisted, price, acceptanceShare, poolShare, coveredSales, specialDelivery, fall, rise, baseRate, raisedRate, marketLimit, interestLimit, spreadGroup, mid, low, up, outerLow, outerUp, level}
+use Rattle.rates.specs.Row.{kind, commodity, unlisted, price, acceptanceShare, poolShare, coveredSales, specialDelivery, fall, rise, baseRate, raisedRate, marketLimit, interestLimit, spreadGroup, spare, mid, low, up, outerLow, outerUp, rest, level}
 
--- a commodity has equal rates for fall and rise: number k equals the number before it
-abbrev pub equalForCommodity : List ℤ → ℕ → Bool
-equalForCommodity row k = not (equal (kind row) (pos 3)) || equal (number row k) (number row (k - 1))
+-- a commodity has equal rates for fall and rise
+abbrev pub equalForCommodity : List ℤ → (ℕ → ℤ) → Bool
+equalForCommodity row rate = not (equal (kind row) commodity) || equal (rate rise) (rate fall)
 
 -- numbers 0 to 5
 unfoldable pub termMarks : List ℤ → List Bool
 termMarks row =
-    between (pos 1) (kind row) (pos 3)
+    between (pos 1) (kind row) commodity
     ∷ between (pos 1) (price row) tenMillion
     ∷ between (pos 0) (acceptanceShare row) theWhole
     ∷ between (pos 0) (poolShare row) theWhole
@@ -31,9 +29,9 @@ termMarks row =
 unfoldable pub rateMarks : List ℤ → List Bool
 rateMarks row =
     between (pos 0) (baseRate row fall) theWhole
-    ∷ (between (pos 0) (baseRate row rise) theWhole && equalForCommodity row 7)
+    ∷ (between (pos 0) (baseRate row rise) theWhole && equalForCommodity row (baseRate row))
     ∷ between (baseRate row fall) (raisedRate row fall) theWhole
-    ∷ (between (baseRate row rise) (raisedRate row rise) theWhole && equalForCommodity row 9)
+    ∷ (between (baseRate row rise) (raisedRate row rise) theWhole && equalForCommodity row (raisedRate row))
     ∷ []
 
 -- numbers 10 to 15
@@ -42,9 +40,9 @@ limitMarks row =
     between (pos 0) (marketLimit row) tenMillion
     ∷ between (pos 0) (interestLimit row) tenMillion
     ∷ between (pos 0) (spreadGroup row) (pos 8)
-    ∷ isZero (number row 13)
-    ∷ isZero (number row 14)
-    ∷ isZero (number row 15)
+    ∷ isZero (spare row 0)
+    ∷ isZero (spare row 1)
+    ∷ isZero (spare row 2)
     ∷ []
 
 -- numbers 16 + 5d to 20 + 5d
@@ -59,7 +57,7 @@ dateMarks row d =
 
 -- a listed row, number by number; 56 to 63 are zero
 unfoldable pub listedMarks : List ℤ → List Bool
-listedMarks row = termMarks row ++ (rateMarks row ++ (limitMarks row ++ (pieces (dateMarks row) 0 dates ++ map isZero (drop 56 row))))
+listedMarks row = termMarks row ++ (rateMarks row ++ (limitMarks row ++ (pieces (dateMarks row) 0 dates ++ map isZero (rest row))))
 
 -- any row: an unlisted one is all zero
 unfoldable pub rowMarks : List ℤ → List Bool

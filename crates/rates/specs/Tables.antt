@@ -1,20 +1,22 @@
 -- Document 01, "Units and sizes": the clearing table, the own table and the groups, and the table check: which of their 2,056 numbers is the
 -- first to break its rule.
 -- Assumes nothing.
+use mathlib.Core.Path.{_≡_}
 use mathlib.Core.Bool.{Bool, true, false, not, cond, _&&_}
 use mathlib.Core.List.{List, [], _∷_, _++_, map}
-use Prim.Native.Nat.{ℕ, _*_}
+use Prim.Native.Nat.{ℕ, _-_, _*_, _<_}
 use lib.IntN.{ℤ, pos}
-use lib.ListN.{length, replicate}
+use lib.ListN.{length, getD, replicate}
 use lib.Dec.{eqb, ltb}
-use Rattle.whole.specs.Bounds.{between, equal, isZero}
+use Rattle.whole.specs.Bounds.{between, equal}
 use Rattle.whole.specs.Parts.{part}
-use Rattle.whole.specs.Marks.{firstFalse, allTrue, pieces}
-use Rattle.whole.specs.Refusals.{_gives_, firstCode}
+use Rattle.whole.specs.Marks.{firstFalse, allTrue, allZero, pieces}
+use Rattle.whole.specs.Refusals.{Refusal, _gives_, firstCode, wrongLength, brokenNumber}
 use Rattle.rates.specs.Units.{assets, rowLength, tableLength, groupCount}
 use Rattle.rates.specs.Row.{kind, unlisted}
 use Rattle.rates.specs.Rules.{rowMarks}
-use Rattle.rates.specs.declared.Checked.{Checked}
+use Rattle.rates.specs.Lent.{Tables}
+use Rattle.rates.specs.declared.tables.Checked.{Checked}
 
 -- the row of asset a
 abbrev pub rowOf : List ℤ → ℕ → List ℤ
@@ -25,8 +27,8 @@ unfoldable pub listed : List ℤ → ℕ → Bool
 listed clearing a = ltb a assets && not (unlisted (rowOf clearing a))
 
 -- an own row is absent if all zero
-unfoldable pub absent : List ℤ → Bool
-absent row = allTrue (map isZero row)
+abbrev pub absent : List ℤ → Bool
+absent row = allZero row
 
 -- a present own row has the kind of the listed clearing row; where it has not, its number 0 is broken
 unfoldable pub ownKindRight : List ℤ → List ℤ → Bool
@@ -35,7 +37,7 @@ ownKindRight own clearing = equal (kind own) (kind clearing) && not (unlisted cl
 unfoldable pub ownRowMarks : List ℤ → List ℤ → List Bool
 ownRowMarks own clearing =
     cond (absent own) (replicate rowLength true)
-    (cond (ownKindRight own clearing) (rowMarks own) (false ∷ replicate 63 true))
+    (cond (ownKindRight own clearing) (rowMarks own) (false ∷ replicate (rowLength - 1) true))
 
 -- a discount percent of a group
 abbrev pub percentRight : ℤ → Bool
@@ -48,24 +50,38 @@ clearingMarks clearing a = rowMarks (rowOf clearing a)
 unfoldable pub ownMarks : List ℤ → List ℤ → ℕ → List Bool
 ownMarks clearing own a = ownRowMarks (rowOf own a) (rowOf clearing a)
 
-unfoldable pub tableMarks : List ℤ → List ℤ → List ℤ → List Bool
-tableMarks clearing own groups =
-    pieces (clearingMarks clearing) 0 assets ++ (pieces (ownMarks clearing own) 0 assets ++ map percentRight groups)
+unfoldable pub tableMarks : Tables → List Bool
+tableMarks tables =
+    pieces (clearingMarks (tables .clearing)) 0 assets
+    ++ (pieces (ownMarks (tables .clearing) (tables .own)) 0 assets ++ map percentRight (tables .groups))
 
-unfoldable pub lengthsRight : List ℤ → List ℤ → List ℤ → Bool
-lengthsRight clearing own groups = eqb (length clearing) tableLength && (eqb (length own) tableLength && eqb (length groups) groupCount)
+unfoldable pub lengthsRight : Tables → Bool
+lengthsRight tables =
+    eqb (length (tables .clearing)) tableLength && (eqb (length (tables .own)) tableLength && eqb (length (tables .groups)) groupCount)
 
 -- the tables are sound: no number breaks its rule
-unfoldable pub soundTables : List ℤ → List ℤ → List ℤ → Bool
-soundTables clearing own groups = allTrue (tableMarks clearing own groups)
+unfoldable pub soundTables : Tables → Bool
+soundTables tables = allTrue (tableMarks tables)
 
--- the answer of the table check: its refusals in their order, and the place of the first broken number with code 2
-unfoldable pub checkCode : List ℤ → List ℤ → List ℤ → ℕ
-checkCode clearing own groups =
-    firstCode (not (lengthsRight clearing own groups) gives 1 ∷ not (soundTables clearing own groups) gives 2 ∷ [])
+-- for what tables of the right lengths are refused, by the table check and by every call that is lent them
+abbrev pub tableRefusals : Tables → List Refusal
+tableRefusals tables = not (soundTables tables) gives brokenNumber ∷ []
 
-unfoldable pub checkPlace : List ℤ → List ℤ → List ℤ → ℕ
-checkPlace clearing own groups = cond (eqb (checkCode clearing own groups) 2) (firstFalse (tableMarks clearing own groups)) 0
+-- the answer of the table check: its refusals in their order, and the place of the first broken number where there is one
+unfoldable pub checkCode : Tables → ℕ
+checkCode tables = firstCode (not (lengthsRight tables) gives wrongLength ∷ tableRefusals tables)
 
-unfoldable pub checked : List ℤ → List ℤ → List ℤ → Checked
-checked clearing own groups = record { code = checkCode clearing own groups; place = checkPlace clearing own groups }
+unfoldable pub checkPlace : Tables → ℕ
+checkPlace tables = cond (eqb (checkCode tables) brokenNumber) (firstFalse (tableMarks tables)) 0
+
+unfoldable pub checked : Tables → Checked
+checked tables = record { code = checkCode tables; place = checkPlace tables }
+
+-- the statement that the place it names is the first broken one, which proofs/Answer proves: the mark there is false, and each before it is true
+pub record FirstBroken (marks : List Bool) (place : ℕ) : Type 0 where
+  pub inside : place < length marks
+  pub broken : getD marks place true ≡ false
+  pub right-before : (k : ℕ) → k < place → getD marks k true ≡ true
+
+abbrev pub PlaceIsFirst : Type 0
+PlaceIsFirst = (tables : Tables) → checkCode tables ≡ brokenNumber → FirstBroken (tableMarks tables) (checkPlace tables)

@@ -1,67 +1,60 @@
 ghost use mathlib.Core.Path.{_≡_};
 ghost use mathlib.Core.List.{map};
-ghost use Prim.Native.Nat.{_<_, _≤_};
+ghost use Prim.Native.Nat.{_+_, _≤_, _<_};
 ghost use lib.ListN.{length};
 ghost use Rattle.whole.specs.Parts.{number};
 ghost use Rattle.whole.specs.Bounds.{between, isZero};
-ghost use Rattle.whole.specs.Marks.{firstFalse, allTrue};
-ghost use Rattle.rates.specs.Units.{theWhole};
+ghost use Rattle.whole.specs.Marks.{firstFalse, placeFrom};
+ghost use Rattle.rates.specs.Units.{theWhole, rowLength};
+ghost use Rattle.rates.specs.Row.{ratesAt, limitsAt};
 ghost use Rattle.rates.specs.Rules.{equalForCommodity, termMarks, rateMarks, limitMarks, listedMarks, rowMarks};
 ghost use Rattle.rates.specs.Tables.{absent};
 use crate::dates;
+use crate::in_row;
+use crate::units;
 
-// The rules of one row (document 01, "Row"): the first broken number of each part, counted from the part's first number, or the part's
-// count where none is broken. Every comparison is made on numbers that earlier ones have bounded, so nothing overflows.
+// The rules of one row (document 01, "Row"): where the first broken number stands. Each part of a row answers the place past its last number where
+// none of it is broken. Only the dates are added to and taken from; they are looked at where the price is right, so nothing overflows.
 
-pub(crate) const WHOLE: i64 = 10000;
+const COMMODITY: i64 = 3;
 
-pub(crate) const TEN_MILLION: i64 = 10000000;
+const PARTIAL: i64 = 2;
 
-pub(crate) const LENGTH: usize = 64;
+const LAST_GROUP: i64 = units::GROUP_COUNT as i64;
 
-// Where the last numbers of a row stand, which are zero.
-const LAST_AT: usize = 56;
+const SPARE_2: usize = in_row::SPARE + 1;
 
-// Whether every number is zero. It does not stop at the first that is not, so that the compiler may look at several together.
-fn all_zero(numbers: &[i64]) -> bool
-    ensures { λ r. ⌜ r ≡ allTrue (map isZero (now (numbers .entry))) ⌝ }
-{
-    let mut zero = true;
-    let mut k = 0;
-    while k < numbers.len() {
-        zero = zero & whole::number_between(numbers, k, 0, 0);
-        k += 1;
-    }
-    zero
-}
+const SPARE_3: usize = in_row::SPARE + 2;
 
-// Whether a row is not there: all its numbers are zero. A sound row that is there has a kind, so its first number is asked before the others.
+const FALL: usize = in_row::BASE_RATES + in_row::FALL;
+
+const RISE: usize = in_row::BASE_RATES + in_row::RISE;
+
+const RAISED_FALL: usize = in_row::RAISED_RATES + in_row::FALL;
+
+const RAISED_RISE: usize = in_row::RAISED_RATES + in_row::RISE;
+
+// Whether a row is not there: all its numbers are zero. A sound row that is there has a kind, so its first number is asked before the others. Here and
+// below zeros are looked for in a part whose length is written out, since the compiler then takes several together.
 pub(crate) fn is_absent(row: &[i64]) -> bool
-    requires { ⌜ length (now row) ≡ 64 ⌝ }
+    requires { ⌜ length (now row) ≡ rowLength ⌝ }
     ensures { λ r. ⌜ r ≡ absent (now (row .entry)) ⌝ }
 {
-    if !whole::number_between(row, 0, 0, 0) {
+    if !whole::number_is(row, in_row::KIND, 0) {
         return false;
     }
-    all_zero(row)
+    whole::all_zero(&row[0..in_row::LENGTH])
 }
 
 // The first number that is not zero, or the count of the numbers. In a sound row there is none: that is asked first, and the place is looked for only
 // where there is one.
 fn first_nonzero(numbers: &[i64]) -> usize
-    ensures { λ r. ⌜ r ≡ firstFalse (map isZero (now (numbers .entry))) ⌝ }
+    ensures { λ r. ⌜ (r ≡ firstFalse (map isZero (now (numbers .entry)))) × (r ≤ length (now (numbers .entry))) ⌝ }
 {
-    if all_zero(numbers) {
+    if whole::all_zero(numbers) {
         return numbers.len();
     }
-    let mut k = 0;
-    while k < numbers.len() {
-        if !whole::number_between(numbers, k, 0, 0) {
-            return k;
-        }
-        k += 1;
-    }
-    k
+    whole::first_outside(numbers, 0, 0)
 }
 
 // Whether number k, a raised rate, lies from number j, its base rate, to the whole.
@@ -69,130 +62,129 @@ fn raised_from(row: &[i64], j: usize, k: usize) -> bool
     requires { ⌜ (j < length (now row)) × (k < length (now row)) ⌝ }
     ensures { λ r. ⌜ r ≡ between (number (now (row .entry)) j) (number (now (row .entry)) k) theWhole ⌝ }
 {
-    whole::lies_between(row[j], row[k], WHOLE)
+    whole::lies_between(row[j], row[k], units::WHOLE)
 }
 
-// Whether number k equals the number before it, where the row is a commodity's.
+// Whether the two rates from place k on are equal, where the row is a commodity's.
 fn equal_for_commodity(row: &[i64], k: usize) -> bool
-    requires { ⌜ (1 ≤ k) × (k < length (now row)) ⌝ }
-    ensures { λ r. ⌜ r ≡ equalForCommodity (now (row .entry)) k ⌝ }
+    requires { ⌜ k + 1 < length (now row) ⌝ }
+    ensures { λ r. ⌜ r ≡ equalForCommodity (now (row .entry)) (λ side. number (now (row .entry)) (k + side)) ⌝ }
 {
-    if !whole::number_between(row, 0, 3, 3) {
+    if !whole::number_is(row, in_row::KIND, COMMODITY) {
         return true;
     }
-    let other = row[k - 1];
-    whole::number_between(row, k, other, other)
+    whole::number_is(row, k + in_row::RISE, row[k + in_row::FALL])
 }
 
 // Numbers 0 to 5.
 fn broken_term(row: &[i64]) -> usize
-    requires { ⌜ length (now row) ≡ 64 ⌝ }
-    ensures { λ r. ⌜ r ≡ firstFalse (termMarks (now (row .entry))) ⌝ }
+    requires { ⌜ length (now row) ≡ rowLength ⌝ }
+    ensures { λ r. ⌜ r ≡ placeFrom 0 (termMarks (now (row .entry))) ⌝ }
 {
-    if !whole::number_between(row, 0, 1, 3) {
-        return 0;
+    if !whole::number_between(row, in_row::KIND, 1, COMMODITY) {
+        return in_row::KIND;
     }
-    if !whole::number_between(row, 1, 1, TEN_MILLION) {
-        return 1;
+    if !whole::number_between(row, in_row::PRICE, 1, units::TEN_MILLION) {
+        return in_row::PRICE;
     }
-    if !whole::number_between(row, 2, 0, WHOLE) {
-        return 2;
+    if !whole::number_between(row, in_row::ACCEPTANCE_SHARE, 0, units::WHOLE) {
+        return in_row::ACCEPTANCE_SHARE;
     }
-    if !whole::number_between(row, 3, 0, WHOLE) {
-        return 3;
+    if !whole::number_between(row, in_row::POOL_SHARE, 0, units::WHOLE) {
+        return in_row::POOL_SHARE;
     }
-    if !whole::number_between(row, 4, 0, 2) {
-        return 4;
+    if !whole::number_between(row, in_row::COVERED_SALES, 0, PARTIAL) {
+        return in_row::COVERED_SALES;
     }
-    if !whole::number_between(row, 5, 0, 1) {
-        return 5;
+    if !whole::number_between(row, in_row::SPECIAL_DELIVERY, 0, 1) {
+        return in_row::SPECIAL_DELIVERY;
     }
-    6
+    in_row::BASE_RATES
 }
 
 // Numbers 6 to 9.
 fn broken_rate(row: &[i64]) -> usize
-    requires { ⌜ length (now row) ≡ 64 ⌝ }
-    ensures { λ r. ⌜ r ≡ firstFalse (rateMarks (now (row .entry))) ⌝ }
+    requires { ⌜ length (now row) ≡ rowLength ⌝ }
+    ensures { λ r. ⌜ r ≡ placeFrom ratesAt (rateMarks (now (row .entry))) ⌝ }
 {
-    if !whole::number_between(row, 6, 0, WHOLE) {
-        return 0;
+    if !whole::number_between(row, FALL, 0, units::WHOLE) {
+        return FALL;
     }
-    if !whole::number_between(row, 7, 0, WHOLE) {
-        return 1;
+    if !whole::number_between(row, RISE, 0, units::WHOLE) {
+        return RISE;
     }
-    if !equal_for_commodity(row, 7) {
-        return 1;
+    if !equal_for_commodity(row, in_row::BASE_RATES) {
+        return RISE;
     }
-    if !raised_from(row, 6, 8) {
-        return 2;
+    if !raised_from(row, FALL, RAISED_FALL) {
+        return RAISED_FALL;
     }
-    if !raised_from(row, 7, 9) {
-        return 3;
+    if !raised_from(row, RISE, RAISED_RISE) {
+        return RAISED_RISE;
     }
-    if !equal_for_commodity(row, 9) {
-        return 3;
+    if !equal_for_commodity(row, in_row::RAISED_RATES) {
+        return RAISED_RISE;
     }
-    4
+    in_row::MARKET_LIMIT
 }
 
 // Numbers 10 to 15.
 fn broken_limit(row: &[i64]) -> usize
-    requires { ⌜ length (now row) ≡ 64 ⌝ }
-    ensures { λ r. ⌜ r ≡ firstFalse (limitMarks (now (row .entry))) ⌝ }
+    requires { ⌜ length (now row) ≡ rowLength ⌝ }
+    ensures { λ r. ⌜ r ≡ placeFrom limitsAt (limitMarks (now (row .entry))) ⌝ }
 {
-    if !whole::number_between(row, 10, 0, TEN_MILLION) {
-        return 0;
+    if !whole::number_between(row, in_row::MARKET_LIMIT, 0, units::TEN_MILLION) {
+        return in_row::MARKET_LIMIT;
     }
-    if !whole::number_between(row, 11, 0, TEN_MILLION) {
-        return 1;
+    if !whole::number_between(row, in_row::INTEREST_LIMIT, 0, units::TEN_MILLION) {
+        return in_row::INTEREST_LIMIT;
     }
-    if !whole::number_between(row, 12, 0, 8) {
-        return 2;
+    if !whole::number_between(row, in_row::SPREAD_GROUP, 0, LAST_GROUP) {
+        return in_row::SPREAD_GROUP;
     }
-    if !whole::number_between(row, 13, 0, 0) {
-        return 3;
+    if !whole::number_is(row, in_row::SPARE, 0) {
+        return in_row::SPARE;
     }
-    if !whole::number_between(row, 14, 0, 0) {
-        return 4;
+    if !whole::number_is(row, SPARE_2, 0) {
+        return SPARE_2;
     }
-    if !whole::number_between(row, 15, 0, 0) {
-        return 5;
+    if !whole::number_is(row, SPARE_3, 0) {
+        return SPARE_3;
     }
-    6
+    in_row::DATES
 }
 
 // A listed row.
 fn broken_listed(row: &[i64]) -> usize
-    requires { ⌜ length (now row) ≡ 64 ⌝ }
+    requires { ⌜ length (now row) ≡ rowLength ⌝ }
     ensures { λ r. ⌜ r ≡ firstFalse (listedMarks (now (row .entry))) ⌝ }
 {
     let term = broken_term(row);
-    if term < 6 {
+    if term < in_row::BASE_RATES {
         return term;
     }
     let rate = broken_rate(row);
-    if rate < 4 {
-        return 6 + rate;
+    if rate < in_row::MARKET_LIMIT {
+        return rate;
     }
     let limit = broken_limit(row);
-    if limit < 6 {
-        return 10 + limit;
+    if limit < in_row::DATES {
+        return limit;
     }
     let date = dates::broken_dates(row);
-    if date < 40 {
-        return 16 + date;
+    if date < in_row::REST {
+        return date;
     }
-    LAST_AT + first_nonzero(&row[LAST_AT..])
+    in_row::REST + first_nonzero(&row[in_row::REST..in_row::LENGTH])
 }
 
 // Any row: the first broken number, or 64.
 pub(crate) fn broken_number(row: &[i64]) -> usize
-    requires { ⌜ length (now row) ≡ 64 ⌝ }
+    requires { ⌜ length (now row) ≡ rowLength ⌝ }
     ensures { λ r. ⌜ r ≡ firstFalse (rowMarks (now (row .entry))) ⌝ }
 {
-    if whole::number_between(row, 0, 0, 0) {
-        return first_nonzero(row);
+    if whole::number_is(row, in_row::KIND, 0) {
+        return first_nonzero(&row[0..in_row::LENGTH]);
     }
     broken_listed(row)
 }

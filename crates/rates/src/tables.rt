@@ -1,111 +1,135 @@
 ghost use mathlib.Core.Path.{_≡_};
-ghost use mathlib.Core.List.{map};
 ghost use lib.ListN.{length};
-ghost use Rattle.whole.specs.Marks.{firstFalse, pieces};
-ghost use Rattle.rates.specs.Tables.{ownKindRight, ownRowMarks, clearingMarks, ownMarks, percentRight, tableMarks};
+ghost use Rattle.whole.specs.Marks.{firstFalse, placeFrom, pieces};
+ghost use Rattle.rates.specs.Units.{assets, rowLength, tableLength, groupCount};
+ghost use Rattle.rates.specs.Lent.{given};
+ghost use Rattle.rates.specs.Tables.{ownKindRight, ownRowMarks, clearingMarks, ownMarks, tableMarks, checked};
+use crate::in_row;
 use crate::row;
+use crate::units;
+use crate::units::GROUPS;
+use crate::units::OWN;
+use crate::units::PLACES;
+use whole::codes;
 
-// The rules of whole tables: one pass over the clearing table, then the own table, then the groups; nothing is looked at after the first
-// broken number.
+// The table check: the clearing table row by row, then the own table, each own row beside its clearing row, then the groups. It ends at the first row or
+// percent that breaks a rule.
 
-pub(crate) const TABLE_LENGTH: usize = 1024;
-
-pub(crate) const ASSETS: usize = 16;
-
-pub(crate) const GROUPS: usize = 8;
-
-pub(crate) const PLACES: usize = 2056;
-
-const OWN_AT: usize = 1024;
-
-const GROUPS_AT: usize = 2048;
+// What the table check answers: its code, and with code 2 the place of the first broken number.
+pub struct Checked {
+    pub code: u8,
+    pub place: usize,
+}
 
 // Whether the clearing row is listed and the own row has its kind.
 fn own_kind_right(own: &[i64], clearing: &[i64]) -> bool
-    requires { ⌜ (length (now own) ≡ 64) × (length (now clearing) ≡ 64) ⌝ }
+    requires { ⌜ (length (now own) ≡ rowLength) × (length (now clearing) ≡ rowLength) ⌝ }
     ensures { λ r. ⌜ r ≡ ownKindRight (now (own .entry)) (now (clearing .entry)) ⌝ }
 {
-    let kind = clearing[0];
-    if !whole::number_between(own, 0, kind, kind) {
+    if !whole::number_is(own, in_row::KIND, clearing[in_row::KIND]) {
         return false;
     }
-    !whole::number_between(clearing, 0, 0, 0)
+    !whole::number_is(clearing, in_row::KIND, 0)
 }
 
 // The first broken number of an own row beside its clearing row, or 64.
 fn broken_own_row(own: &[i64], clearing: &[i64]) -> usize
-    requires { ⌜ (length (now own) ≡ 64) × (length (now clearing) ≡ 64) ⌝ }
+    requires { ⌜ (length (now own) ≡ rowLength) × (length (now clearing) ≡ rowLength) ⌝ }
     ensures { λ r. ⌜ r ≡ firstFalse (ownRowMarks (now (own .entry)) (now (clearing .entry))) ⌝ }
 {
     if row::is_absent(own) {
-        return row::LENGTH;
+        return in_row::LENGTH;
     }
     if !own_kind_right(own, clearing) {
-        return 0;
+        return in_row::KIND;
     }
     row::broken_number(own)
 }
 
-// The first broken place of the clearing table, or 1024.
+// The first broken place of the clearing table, or the place past it.
 fn broken_clearing(clearing: &[i64]) -> usize
-    requires { ⌜ length (now clearing) ≡ 1024 ⌝ }
-    ensures { λ r. ⌜ r ≡ firstFalse (pieces (clearingMarks (now (clearing .entry))) 0 16) ⌝ }
+    requires { ⌜ length (now clearing) ≡ tableLength ⌝ }
+    ensures { λ r. ⌜ r ≡ placeFrom 0 (pieces (clearingMarks (now (clearing .entry))) 0 assets) ⌝ }
 {
     let mut a = 0;
-    while a < ASSETS {
-        let at = row::LENGTH * a;
-        let broken = row::broken_number(&clearing[at..at + row::LENGTH]);
-        if broken < row::LENGTH {
+    while a < units::ASSET_COUNT {
+        let at = in_row::LENGTH * a;
+        let broken = row::broken_number(&clearing[at..at + in_row::LENGTH]);
+        if broken < in_row::LENGTH {
             return at + broken;
         }
         a += 1;
     }
-    TABLE_LENGTH
+    OWN
 }
 
-// The first broken place of the own table, from 0, or 1024.
+// The first broken place of the own table, or the place past it.
 fn broken_own(clearing: &[i64], own: &[i64]) -> usize
-    requires { ⌜ (length (now clearing) ≡ 1024) × (length (now own) ≡ 1024) ⌝ }
-    ensures { λ r. ⌜ r ≡ firstFalse (pieces (ownMarks (now (clearing .entry)) (now (own .entry))) 0 16) ⌝ }
+    requires { ⌜ (length (now clearing) ≡ tableLength) × (length (now own) ≡ tableLength) ⌝ }
+    ensures { λ r. ⌜ r ≡ placeFrom tableLength (pieces (ownMarks (now (clearing .entry)) (now (own .entry))) 0 assets) ⌝ }
 {
     let mut a = 0;
-    while a < ASSETS {
-        let at = row::LENGTH * a;
-        let broken = broken_own_row(&own[at..at + row::LENGTH], &clearing[at..at + row::LENGTH]);
-        if broken < row::LENGTH {
-            return at + broken;
+    while a < units::ASSET_COUNT {
+        let at = in_row::LENGTH * a;
+        let broken = broken_own_row(
+            &own[at..at + in_row::LENGTH],
+            &clearing[at..at + in_row::LENGTH],
+        );
+        if broken < in_row::LENGTH {
+            return OWN + at + broken;
         }
         a += 1;
     }
-    TABLE_LENGTH
+    GROUPS
 }
 
-// The first broken group, from 0, or the count of the groups.
-fn broken_group(groups: &[i64]) -> usize
-    ensures { λ r. ⌜ r ≡ firstFalse (map percentRight (now (groups .entry))) ⌝ }
-{
-    let mut g = 0;
-    while g < groups.len() {
-        if !whole::number_between(groups, g, 0, 50) {
-            return g;
-        }
-        g += 1;
-    }
-    g
-}
-
-// The first broken place of tables and groups of the right lengths, or 2,056.
-pub(crate) fn broken_place(clearing: &[i64], own: &[i64], groups: &[i64]) -> usize
-    requires { ⌜ (length (now clearing) ≡ 1024) × (length (now own) ≡ 1024) × (length (now groups) ≡ 8) ⌝ }
-    ensures { λ r. ⌜ r ≡ firstFalse (tableMarks (now (clearing .entry)) (now (own .entry)) (now (groups .entry))) ⌝ }
+// The first broken place of tables and groups of the right lengths, or the count of the places.
+fn broken_place(clearing: &[i64], own: &[i64], groups: &[i64]) -> usize
+    requires { ⌜ (length (now clearing) ≡ tableLength) × (length (now own) ≡ tableLength) × (length (now groups) ≡ groupCount) ⌝ }
+    ensures { λ r. ⌜ r ≡ firstFalse (tableMarks (given clearing own groups)) ⌝ }
 {
     let in_clearing = broken_clearing(clearing);
-    if in_clearing < TABLE_LENGTH {
+    if in_clearing < OWN {
         return in_clearing;
     }
     let in_own = broken_own(clearing, own);
-    if in_own < TABLE_LENGTH {
-        return OWN_AT + in_own;
+    if in_own < GROUPS {
+        return in_own;
     }
-    GROUPS_AT + broken_group(groups)
+    GROUPS + whole::first_outside(groups, 0, units::MOST_PERCENT)
+}
+
+// The table check: 1 for a wrong length, 2 with the place of the first broken number, else 0.
+pub fn check_tables(clearing: &[i64], own: &[i64], groups: &[i64]) -> Checked
+    ensures { λ r. ⌜ r ≡ checked (given clearing own groups) ⌝ }
+{
+    if clearing.len() != units::TABLE_LENGTH {
+        return Checked {
+            code: codes::WRONG_LENGTH,
+            place: 0,
+        };
+    }
+    if own.len() != units::TABLE_LENGTH {
+        return Checked {
+            code: codes::WRONG_LENGTH,
+            place: 0,
+        };
+    }
+    if groups.len() != units::GROUP_COUNT {
+        return Checked {
+            code: codes::WRONG_LENGTH,
+            place: 0,
+        };
+    }
+    let place = broken_place(clearing, own, groups);
+    if place < PLACES {
+        return Checked {
+            code: codes::BROKEN_NUMBER,
+            place: place,
+        };
+    }
+    Checked {
+        code: codes::DONE,
+        place: 0,
+    }
 }

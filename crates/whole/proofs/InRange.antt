@@ -13,7 +13,7 @@ use Rattle.whole.specs.Numbers.{maxℤ}
 use Rattle.whole.specs.Bounds.{_within_, _upto_}
 use Rattle.whole.proofs.PlusMinus.{abs-is, one-is-zero}
 use Rattle.whole.proofs.Expressions.{var, neg, _⊕_, _⊔_, is}
-use Rattle.whole.proofs.Machine.{Runs, back, held, runs}
+use Rattle.whole.proofs.Machine.{Runs, back}
 use Rattle.whole.proofs.Numbers.{≤ℤ-trans, *ℤ-mono, *ℤ-monoʳ, *ℤ-nonneg}
 use Rattle.whole.proofs.Rules.{ints}
 
@@ -52,8 +52,3 @@ negated {x} f g = toZ-ofZ g ∙ +ℤ-idl (negℤ (back x)) ∙ ap negℤ (toZ-of
 
 pub sum-runs : {x y : ℤ} {A B : ℕ} → x within A → y within B → A + B < 2 ^ 63 → Runs (var x ⊕ var y)
 sum-runs {x} {y} {A} {B} h k l = omega ints
-
-pub sum-held : {x y : ℤ} {A B : ℕ} (C : ℕ) → x within A → y within B → A + B ≤ C → C < 2 ^ 63 → held (var x ⊕ var y) within C
-sum-held {x} {y} {A} {B} C h k l m =
-    let e = runs (var x ⊕ var y) (sum-runs h k (omega arith)) in
-    subst (λ (z : ℤ). z within C) (sym e) (omega (ints, is (var x ⊕ var y)))

@@ -7,11 +7,15 @@ pub mod Numbers
 pub mod Rounding
 pub mod Bounds
 pub mod Sums
+pub mod Summing
 pub mod Parts
+pub mod Laid
 pub mod Tests
 pub mod Marks
 pub mod Refusals
 pub mod Tabulated
 pub mod Lists
+pub mod Chains
 pub mod Every
 pub mod InRange
+pub mod Parameters

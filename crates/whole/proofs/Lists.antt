@@ -11,7 +11,7 @@ use lib.ListN.{length, take, drop, getD, set, drop-of-length-le}
 use lib.Seq.{drop-cons, drop-set-add, drop-set-lt, take-set-lt, take-set-le}
 use Rattle.whole.specs.Parts.{part, put}
 use Rattle.whole.specs.Marks.{allTrue}
-use Rattle.whole.proofs.Tests.{and-left, and-right, both, first-out, second-out, true-not-false}
+use Rattle.whole.proofs.Tests.{and-left, and-right, both}
 
 pub and-true : (a : Bool) → a && true ≡ a
 and-true true = refl
@@ -40,14 +40,7 @@ pub back-put : {A : Type 0} (a n : ℕ) (xs ys : List A) → take a xs ++ (ys ++
 unfolding put
 back-put a n xs ys = ap (λ (k : ℕ). take a xs ++ (ys ++ drop k (drop a xs))) (let e : a + n - a ≡ n = omega arith in e)
 
--- ---- a chain of tests that stops at the first false mark
-pub all-out-at : (ms : List Bool) (k : ℕ) → getD ms k true ≡ false → allTrue ms ≡ false
-unfolding allTrue
-all-out-at [] k e = true-not-false (sym e)
-all-out-at (m ∷ ms) zero e = first-out m (allTrue ms) e
-all-out-at (m ∷ ms) (suc k) e = second-out m (allTrue ms) (all-out-at ms k e)
-
--- the tests before passed, and the answer is that of the last
+-- ---- a chain of tests: those before passed, and the answer is that of the last
 pub data Passes : List Bool → Bool → Type 0 where
   next : {x m : Bool} {ms : List Bool} → m ≡ true → Passes ms x → Passes (m ∷ ms) x
   last : {x m : Bool} → x ≡ m → Passes (m ∷ []) x

@@ -1,7 +1,7 @@
 -- What the machine makes of i64 arithmetic. A signed number is held as bits, so a proof's goals read `toZ w64 (ofZ w64 z)` at every local;
 -- that is z where z fits. `need! e ok` answers that an operation does not overflow, `runs e ok` that straight code computes its expression.
 -- Assumes nothing.
-use mathlib.Core.Path.{_≡_, refl, sym, ap, ap₂, _∙_, subst}
+use mathlib.Core.Path.{_≡_, refl, sym, ap, ap₂, subst}
 use Prim.Native.Nat.{_+_, _-_, _<_, _≤_, _^_}
 use native.Mathlib.Omega.{arith}
 use lib.Dec.{T}
@@ -121,10 +121,6 @@ fits-back {x} f = subst (SFits w64) (sym (toZ-ofZ f)) f
 
 pub clean₂ {ℓ} : {A : Type ℓ} (f : ℤ → ℤ → A) {x y : ℤ} → SFits w64 x → SFits w64 y → f (back x) (back y) ≡ f x y
 clean₂ f h k = ap₂ f (toZ-ofZ h) (toZ-ofZ k)
-
--- `==` and `!=` on i64 compare the bits
-pub same-bits : {x y : ℤ} → SFits w64 x → SFits w64 y → ofZ w64 x ≡ ofZ w64 y → x ≡ y
-same-bits f g e = sym (toZ-ofZ f) ∙ ap (toZ w64) e ∙ toZ-ofZ g
 
 -- a number from 0 up, as an index
 pub nonNeg-by : (x : ℤ) → minus x ≤ plus x → T (nonNeg x)

@@ -1,5 +1,5 @@
--- Laws of lists of marks, over any list and place: a chain of tests that stops at the first false mark, marks one after another, loops over
--- numbers and over pieces, and what follows where all are true.
+-- Laws of lists of marks, over any list and place: the place of the first false one, marks one after another, loops over numbers and over pieces,
+-- and what follows where all are true.
 -- Assumes nothing.
 use mathlib.Core.Path.{_≡_, refl, sym, ap, _∙_, subst}
 use mathlib.Core.Bool.{Bool, true, false}
@@ -11,20 +11,8 @@ use native.Mathlib.Numerals.{add-one}
 use native.Mathlib.Omega.{arith}
 use lib.ListN.{length, getD, drop, drop-of-length-le, length-append, List·getD-map}
 use lib.Seq.{drop-cons}
-use Rattle.whole.specs.Marks.{firstFalse, allTrue, pieces}
+use Rattle.whole.specs.Marks.{firstFalse, placeFrom, allTrue, pieces}
 use Rattle.whole.proofs.Tests.{and-left, and-right, true-not-false}
-
--- ---- a chain of tests: those before place k passed, and the one at k failed
-pub data First : List Bool → ℕ → Type 0 where
-  none : First [] 0
-  yes : {m : Bool} {ms : List Bool} {k : ℕ} → m ≡ true → First ms k → First (m ∷ ms) (suc k)
-  no : {m : Bool} {ms : List Bool} → m ≡ false → First (m ∷ ms) 0
-
-pub first : {ms : List Bool} {k : ℕ} → First ms k → k ≡ firstFalse ms
-unfolding firstFalse
-first none = refl
-first (yes e p) = rw e (ap suc (first p))
-first (no e) = rw e refl
 
 -- ---- the place: every mark before it is true, and the mark at it is false
 pub first-at-most : (ms : List Bool) → firstFalse ms ≤ length ms
@@ -59,13 +47,19 @@ first-past [] b h = omega arith
 first-past (true ∷ a) b h = ap suc (first-past a b (omega arith)) ∙ omega arith
 first-past (false ∷ a) b h = absurd (omega arith)
 
--- ---- as code finds the first false mark of two lists, one after the other: the first stops the search, or is passed with its count
-module _ (a b : List Bool) (n r : ℕ) (long : length a ≡ n) (e : r ≡ firstFalse a) where
-  pub stops-in : r < n → r ≡ firstFalse (a ++ b)
-  stops-in h = e ∙ sym (first-in a b (omega arith))
+pub from-zero : (ms : List Bool) → placeFrom 0 ms ≡ firstFalse ms
+unfolding placeFrom
+from-zero ms = omega arith
 
-  pub goes-past : n ≤ r → (s : ℕ) → s ≡ firstFalse b → n + s ≡ firstFalse (a ++ b)
-  goes-past h s f = omega (arith, first-past a b (omega arith))
+-- ---- as code finds the first false mark of two lists, one after the other: the first stops the search, or is passed with its count
+module _ (k : ℕ) (a b : List Bool) (n r : ℕ) (long : length a ≡ n) (e : r ≡ placeFrom k a) where
+  pub stops-in : r < k + n → r ≡ placeFrom k (a ++ b)
+  unfolding placeFrom
+  stops-in h = omega (arith, first-in a b (omega arith))
+
+  pub goes-past : k + n ≤ r → placeFrom (k + n) b ≡ placeFrom k (a ++ b)
+  unfolding placeFrom
+  goes-past h = omega (arith, first-past a b (omega arith))
 
 pub pieces-length : (f : ℕ → List Bool) (size i n : ℕ) → ((d : ℕ) → d < i + n → length (f d) ≡ size) → length (pieces f i n) ≡ size * n
 unfolding pieces
@@ -91,26 +85,34 @@ module _ {A : Type 0} (z : A) (f : A → Bool) (s : List A) where
   unfolding firstFalse
   numbers-end i h = rw (drop-of-length-le s h) (omega arith)
 
--- ---- a loop over n pieces of one size: what is left from piece d on
-module _ (f : ℕ → List Bool) (size n : ℕ) where
-  abbrev pub from-piece : ℕ → ℕ
-  from-piece d = size * d + firstFalse (pieces f d (n - d))
+-- ---- a loop over n pieces of one size, whose first mark stands at place k: d of them were passed
+pub record Passed (marks : ℕ → List Bool) (k size n d : ℕ) : Type 0 where
+  pub inside : d ≤ n
+  pub rest : placeFrom k (pieces marks 0 n) ≡ placeFrom (k + size * d) (pieces marks d (n - d))
 
-  next : (d : ℕ) → d < n → pieces f d (n - d) ≡ f d ++ pieces f (d + 1) (n - (d + 1))
-  unfolding pieces
-  next d h = let e : n - d ≡ suc (n - (d + 1)) = omega arith in rw (e, add-one d) refl
+next : (marks : ℕ → List Bool) (n d : ℕ) → d < n → pieces marks d (n - d) ≡ marks d ++ pieces marks (d + 1) (n - (d + 1))
+unfolding pieces
+next marks n d h = let e : n - d ≡ suc (n - (d + 1)) = omega arith in rw (e, add-one d) refl
 
-  module _ (d : ℕ) (h : d < n) (l : length (f d) ≡ size) where
-    pub piece-right : size ≤ firstFalse (f d) → from-piece d ≡ from-piece (d + 1)
-    piece-right p = rw (next d h, first-past (f d) (pieces f (d + 1) (n - (d + 1))) (omega arith))
-        (omega (arith, mul-suc size d, ap (λ (k : ℕ). size * k) (add-one d)))
+module _ {marks : ℕ → List Bool} {k size n : ℕ} where
+  pub none-passed : Passed marks k size n 0
+  unfolding placeFrom
+  none-passed = let e : n ≡ n - 0 = omega arith in record { inside = omega arith; rest = omega (arith, mul-zero size, ap (λ (i : ℕ). firstFalse (pieces marks 0 i)) e) }
 
-    pub piece-wrong : firstFalse (f d) < size → from-piece d ≡ size * d + firstFalse (f d)
-    piece-wrong p = rw (next d h, first-in (f d) (pieces f (d + 1) (n - (d + 1))) (omega arith)) refl
+  module _ {d b : ℕ} (p : Passed marks k size n d) (h : d < n) (long : length (marks d) ≡ size) (e : b ≡ firstFalse (marks d)) where
+    pub piece-passed : size ≤ b → Passed marks k size n (d + 1)
+    unfolding placeFrom
+    piece-passed l =
+        let past = ap firstFalse (next marks n d h) ∙ first-past (marks d) (pieces marks (d + 1) (n - (d + 1))) (omega arith) in
+        record { inside = omega arith; rest = omega (arith, p .rest, past, mul-suc size d, ap (λ (i : ℕ). size * i) (add-one d)) }
 
-  pub pieces-end : (d : ℕ) → n ≤ d → from-piece d ≡ size * d
-  unfolding pieces firstFalse
-  pieces-end d h = let e : n - d ≡ 0 = omega arith in rw e (omega arith)
+    pub found-in : b < size → {r : ℕ} → r ≡ k + size * d + b → r ≡ placeFrom k (pieces marks 0 n)
+    unfolding placeFrom
+    found-in l f = omega (arith, p .rest, ap firstFalse (next marks n d h) ∙ first-in (marks d) (pieces marks (d + 1) (n - (d + 1))) (omega arith))
+
+  pub all-passed : {d r : ℕ} → Passed marks k size n d → n ≤ d → r ≡ k + size * n → r ≡ placeFrom k (pieces marks 0 n)
+  unfolding placeFrom pieces firstFalse
+  all-passed {d} p l f = let e : n - d ≡ 0 = omega arith in let m : d ≡ n = omega (arith, p .inside) in omega (arith, p .rest, ap (λ (i : ℕ). firstFalse (pieces marks d i)) e, ap (λ (i : ℕ). size * i) m)
 
 -- ---- all true
 pub all-of : (ms : List Bool) → length ms ≤ firstFalse ms → allTrue ms ≡ true

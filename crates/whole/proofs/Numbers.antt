@@ -1,30 +1,23 @@
--- Laws of ℤ that the library lacks: the ring, the order, lesser and greater, the size, products of bounded numbers, and a loop's cast.
+-- Laws of ℤ that the library lacks: the ring, the order, and the size.
 -- Assumes nothing.
 use mathlib.Core.Path.{_≡_, refl}
 use mathlib.Core.Logic.{_⊎_, inl, inr, ⊎-elim}
-use Prim.Native.Nat.{ℕ, zero, suc, _+_, _*_, _-_, _<_, _≤_}
+use Prim.Native.Nat.{ℕ, zero, suc, _+_, _*_, _<_, _≤_}
 use native.Mathlib.Nat.{mul-le-mul-left}
 use native.Mathlib.Decide.{decLt}
 use native.Mathlib.Omega.{arith}
 use lib.IntN.{ℤ, pos, negsuc, negℤ, natAbs, _+ℤ_, _-ℤ_, _*ℤ_, *ℤ-comm}
 use lib.Signed.{_≤ℤ_, _<ℤ_}
-use Rattle.whole.specs.Numbers.{minℤ, maxℤ, absℤ}
 use Rattle.whole.proofs.PlusMinus.{plus, minus, le-says, le-by, lt-by, abs-is, one-is-zero}
-use Rattle.whole.proofs.Expressions.{var, lit, size, _⊕_, _⊖_, _⊛_, _⊓_, _⊔_, is, le!, eq!, le?}
+use Rattle.whole.proofs.Expressions.{var, lit, _⊕_, _⊖_, _⊛_, is, le!, eq!, le?}
 use Rattle.whole.proofs.Rules.{ints}
 
 -- ---- the ring
-pub *ℤ-assoc : (x y z : ℤ) → (x *ℤ y) *ℤ z ≡ x *ℤ (y *ℤ z)
-*ℤ-assoc x y z = eq! ((var x ⊛ var y) ⊛ var z) (var x ⊛ (var y ⊛ var z)) (omega arith)
-
 pub *ℤ-distribˡ : (x y z : ℤ) → x *ℤ (y +ℤ z) ≡ x *ℤ y +ℤ x *ℤ z
 *ℤ-distribˡ x y z = eq! (var x ⊛ (var y ⊕ var z)) (var x ⊛ var y ⊕ var x ⊛ var z) (omega arith)
 
 pub *ℤ-distribʳ : (x y z : ℤ) → (x +ℤ y) *ℤ z ≡ x *ℤ z +ℤ y *ℤ z
 *ℤ-distribʳ x y z = eq! ((var x ⊕ var y) ⊛ var z) (var x ⊛ var z ⊕ var y ⊛ var z) (omega arith)
-
-pub *ℤ-sub : (x y z : ℤ) → x *ℤ (y -ℤ z) ≡ x *ℤ y -ℤ x *ℤ z
-*ℤ-sub x y z = eq! (var x ⊛ (var y ⊖ var z)) (var x ⊛ var y ⊖ var x ⊛ var z) (omega arith)
 
 -- ---- the order
 pub ≤ℤ-trans : {x y z : ℤ} → x ≤ℤ y → y ≤ℤ z → x ≤ℤ z
@@ -45,9 +38,6 @@ pub <ℤ-or-≥ℤ : (x y : ℤ) → (x <ℤ y) ⊎ (y ≤ℤ x)
 
 pub +ℤ-mono : {a b c d : ℤ} → a ≤ℤ b → c ≤ℤ d → (a +ℤ c) ≤ℤ (b +ℤ d)
 +ℤ-mono {a} {b} {c} {d} h k = le! (var a ⊕ var c) (var b ⊕ var d) (omega ints)
-
-pub -ℤ-mono : {a b c d : ℤ} → a ≤ℤ b → d ≤ℤ c → (a -ℤ c) ≤ℤ (b -ℤ d)
--ℤ-mono {a} {b} {c} {d} h k = le! (var a ⊖ var c) (var b ⊖ var d) (omega ints)
 
 -- by a number from 0 up
 pub *ℤ-mono : (c a b : ℤ) → pos 0 ≤ℤ c → a ≤ℤ b → (c *ℤ a) ≤ℤ (c *ℤ b)
@@ -74,13 +64,6 @@ pub *ℤ-step : (W x y z : ℤ) → pos 0 ≤ℤ x → x ≤ℤ W → y ≤ℤ z
 *ℤ-step W x y z l h k = let m = *ℤ-monoʳ (z -ℤ y) x W (le! (lit 0) (var z ⊖ var y) (omega ints)) h in
     le! (var x ⊛ var z) (var x ⊛ var y ⊕ var W ⊛ (var z ⊖ var y)) (omega (arith, le? (var x ⊛ (var z ⊖ var y)) (var W ⊛ (var z ⊖ var y)) m))
 
--- ---- lesser and greater
-pub min-mono : {a b c d : ℤ} → a ≤ℤ b → c ≤ℤ d → minℤ a c ≤ℤ minℤ b d
-min-mono {a} {b} {c} {d} h k = le! (var a ⊓ var c) (var b ⊓ var d) (omega ints)
-
-pub max-mono : {a b c d : ℤ} → a ≤ℤ b → c ≤ℤ d → maxℤ a c ≤ℤ maxℤ b d
-max-mono {a} {b} {c} {d} h k = le! (var a ⊔ var c) (var b ⊔ var d) (omega ints)
-
 -- ---- the size
 pub abs-add : (x y : ℤ) → natAbs (x +ℤ y) ≤ natAbs x + natAbs y
 abs-add x y = let s = is (var x ⊕ var y) in omega (arith, one-is-zero (x +ℤ y), abs-is (x +ℤ y), abs-is x, abs-is y)
@@ -94,7 +77,3 @@ abs-mul (pos a) (pos b) = refl
 abs-mul (pos a) (negsuc b) = neg-size (a * suc b)
 abs-mul (negsuc a) (pos b) = neg-size (suc a * b)
 abs-mul (negsuc a) (negsuc b) = refl
-
--- |x| is at most |y| and the distance between them
-pub abs-near : (x y : ℤ) → absℤ x ≤ℤ (absℤ y +ℤ absℤ (x -ℤ y))
-abs-near x y = le! (size (var x)) (size (var y) ⊕ size (var x ⊖ var y)) (omega arith)

@@ -18,6 +18,10 @@ cut a n xs = ap (λ (k : ℕ). take k (drop a xs)) (let e : a + n - a ≡ n = om
 pub to-end : {A : Type 0} (a : ℕ) (xs : List A) → take (length xs - a) (drop a xs) ≡ drop a xs
 to-end a xs = take-all (length xs - a) (drop a xs) (omega (arith, length-drop a xs))
 
+-- the same of a list of n elements, `&xs[a..n]`
+pub up-to : {A : Type 0} (a n : ℕ) (xs : List A) → length xs ≡ n → take (n - a) (drop a xs) ≡ drop a xs
+up-to a n xs long = take-all (n - a) (drop a xs) (omega (arith, length-drop a xs))
+
 module _ {A : Type 0} (d : A) (a n : ℕ) (xs : List A) where
   pub part-at : (i : ℕ) → i < n → getD (part a n xs) i d ≡ getD xs (a + i) d
   unfolding part

@@ -82,8 +82,3 @@ or-cases false b e = inr e
 pub or-left-off : (a b : Bool) → a || b ≡ false → a ≡ false
 or-left-off true b e = e
 or-left-off false b e = refl
-
-pub or-holds : (a b : Bool) → (b ≡ true → a ≡ true) → a ≡ a || b
-or-holds true b h = refl
-or-holds false true h = h refl
-or-holds false false h = refl

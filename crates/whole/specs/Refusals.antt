@@ -18,3 +18,47 @@ firstCode (test gives code ∷ rs) = cond test code (firstCode rs)
 -- what a call leaves behind it
 unfoldable pub leaves : {A : Type 0} → ℕ → A → A → A
 leaves code new old = cond (eqb code 0) new old
+
+-- ---- the codes of document 01's table, in its order
+-- a lent length is wrong
+abbrev pub wrongLength : ℕ
+wrongLength = 1
+
+-- the table check finds a broken number
+abbrev pub brokenNumber : ℕ
+brokenNumber = 2
+
+-- account number not 0 to 15
+abbrev pub noAccount : ℕ
+noAccount = 3
+
+-- the block breaks the block rules; where tables are lent, also a nonzero holding in an unlisted asset
+abbrev pub brokenBlock : ℕ
+brokenBlock = 6
+
+abbrev pub notOpen : ℕ
+notOpen = 4
+
+-- open on an open account
+abbrev pub alreadyOpen : ℕ
+alreadyOpen = 5
+
+-- an asset, a date, a side or a kind that there is not
+abbrev pub wrongChoice : ℕ
+wrongChoice = 7
+
+-- a quantity, order money or a move outside its bounds
+abbrev pub wrongAmount : ℕ
+wrongAmount = 8
+
+-- a number would leave its bounds, or a withdrawal would leave collateral below 0
+abbrev pub outOfBounds : ℕ
+outOfBounds = 9
+
+-- the limit after an order or a withdrawal would be negative
+abbrev pub negativeLimit : ℕ
+negativeLimit = 10
+
+-- a session line of no form
+abbrev pub malformed : ℕ
+malformed = 12

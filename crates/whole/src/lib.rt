@@ -1,5 +1,8 @@
+pub mod codes;
+
 ghost use mathlib.Core.Path.{_≡_};
-ghost use Prim.Native.Nat.{_+_, _<_, _^_};
+ghost use mathlib.Core.List.{map};
+ghost use Prim.Native.Nat.{_+_, _≤_, _<_, _^_};
 ghost use lib.IntN.{pos, natAbs};
 ghost use lib.Signed.{_≤ℤ_};
 ghost use lib.ListN.{length};
@@ -8,6 +11,7 @@ ghost use mir.Val.{SFits};
 ghost use Rattle.whole.specs.Numbers.{minℤ, maxℤ, absℤ, dividedDown, dividedUp};
 ghost use Rattle.whole.specs.Bounds.{between};
 ghost use Rattle.whole.specs.Parts.{number};
+ghost use Rattle.whole.specs.Marks.{firstFalse, allZero};
 
 // The arithmetic of i64 that the engine's code shares. Nothing here wraps: where an answer could leave the range, the caller
 // shows that it does not. A `requires` of this crate is met by its callers inside the engine.
@@ -25,6 +29,41 @@ pub fn number_between(numbers: &[i64], k: usize, low: i64, high: i64) -> bool
     ensures { λ r. ⌜ r ≡ between low (number (now (numbers .entry)) k) high ⌝ }
 {
     lies_between(low, numbers[k], high)
+}
+
+// Whether number k is x, that is lies from x to x.
+pub fn number_is(numbers: &[i64], k: usize, x: i64) -> bool
+    requires { ⌜ k < length (now numbers) ⌝ }
+    ensures { λ r. ⌜ r ≡ between x (number (now (numbers .entry)) k) x ⌝ }
+{
+    number_between(numbers, k, x, x)
+}
+
+// Whether every number is zero. It does not stop at the first that is not, so that the compiler may look at several together.
+pub fn all_zero(numbers: &[i64]) -> bool
+    ensures { λ r. ⌜ r ≡ allZero (now (numbers .entry)) ⌝ }
+{
+    let mut zero = true;
+    let mut k = 0;
+    while k < numbers.len() {
+        zero = zero & number_is(numbers, k, 0);
+        k += 1;
+    }
+    zero
+}
+
+// The place of the first number that does not lie from low to high, or the count of the numbers.
+pub fn first_outside(numbers: &[i64], low: i64, high: i64) -> usize
+    ensures { λ r. ⌜ (r ≡ firstFalse (map (λ x. between low x high) (now (numbers .entry)))) × (r ≤ length (now (numbers .entry))) ⌝ }
+{
+    let mut k = 0;
+    while k < numbers.len() {
+        if !number_between(numbers, k, low, high) {
+            return k;
+        }
+        k += 1;
+    }
+    k
 }
 
 // The lesser of two numbers.

@@ -1,5 +1,5 @@
 -- `whole::divided_down` meets its contract: from 0 up the machine's quotient rounds down. Assumes nothing.
-use mathlib.Core.Path.{_≡_, sym, _∙_, subst}
+use mathlib.Core.Path.{_≡_, sym, ap, _∙_, subst}
 use Prim.Native.Nat.{_<_}
 use lib.IntN.{ℤ, pos, negsuc, natAbs}
 use lib.Signed.{_≤ℤ_, quotZ}
@@ -24,11 +24,8 @@ some : (y : ℤ) → pos 1 ≤ℤ y → 0 < ofZ w64 y
 some (pos n) h = omega ints
 some (negsuc n) h = absurd (h .le)
 
-div-result : tie.Need-div-result
-div-result c = (some (c .args .by) (c .pre .1), subst (SFits w64) (sym (quotient c)) (fits c))
-
 returns : tie.Need-returns
-returns c = rw (quotient c) (toZ-ofZ (fits c), fits-back (fits c))
+returns c = (ap back (quotient c) ∙ toZ-ofZ (fits c), fits-back (subst (SFits w64) (sym (quotient c)) (fits c)))
 
 pub divided-down-spec : {M : Type 1} → statement M
-divided-down-spec = tie.close (tie.spec div-result returns)
+divided-down-spec = tie.close (tie.spec (λ c. (some (c .args .by) (c .pre .1), subst (SFits w64) (sym (quotient c)) (fits c))) returns)

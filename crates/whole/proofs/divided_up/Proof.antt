@@ -18,15 +18,6 @@ raised c = var (c .args .x) ⊕ (var (c .args .by) ⊖ lit 1)
 ok : (c : tie.Start) → Runs (raised c)
 ok c = omega (ints, abs-is (c .args .x), abs-is (c .args .by))
 
-sub-divided-down : tie.Need-sub-divided-down
-sub-divided-down c = need! (var (c .args .by) ⊖ lit 1) (ok c .1)
-
-add-divided-down : tie.Need-add-divided-down
-add-divided-down c = need! (raised c) (ok c)
-
-divided-down-requires : tie.Need-divided-down-requires
-divided-down-requires c κs = rw (runs (raised c) (ok c), toZ-ofZ (c .fits .by)) (le! (lit 0) (raised c) (omega ints), c .pre .1)
-
 returns : tie.Need-returns
 returns c =
     let s = c .before in
@@ -37,4 +28,9 @@ returns c =
 
 pub divided-up-spec : {M : Type 1} → statement M
 divided-up-spec =
-    tie.close (tie.spec sub-divided-down add-divided-down divided-down-requires returns)
+    tie.close
+    (tie.spec
+    (λ c. need! (var (c .args .by) ⊖ lit 1) (ok c .1))
+    (λ c. need! (raised c) (ok c))
+    (λ c κs. rw (runs (raised c) (ok c), toZ-ofZ (c .fits .by)) (le! (lit 0) (raised c) (omega ints), c .pre .1))
+    returns)

@@ -1,7 +1,7 @@
 -- `answer::put_answer` meets its contract: it tests for the room that the whole line takes. Assumes nothing.
 use native.Mathlib.Omega.{arith}
 use denote.Ref.{now}
-use Rattle.frames.proofs.Laid.{laid-written, no-room}
+use Rattle.frames.proofs.answer.Written.{laid-written, no-room}
 use Rattle.frames.proofs.Digits.{answer-length}
 use borrow.Author.Needs.{needs}
 use Rattle.frames.proofs.answer.put_answer.Statement.{statement}

@@ -4,7 +4,7 @@ use mathlib.Core.List.{[], _∷_}
 use Prim.Native.Nat.{ℕ}
 use native.Mathlib.Omega.{arith}
 use Rattle.frames.specs.Hex.{hexOf}
-use Rattle.frames.proofs.Laid.{laid-same, laid-then}
+use Rattle.whole.proofs.Laid.{laid-same, laid-then}
 use borrow.Author.Needs.{needs}
 use Rattle.frames.proofs.answer.put_byte.Statement.{statement}
 use Rattle.frames.proofs.answer.put_byte.Tie as tie

@@ -10,10 +10,11 @@ use mir.Syntax.{w64}
 use mir.Facts.{toZ-ofZ}
 use lib.ListN.{length, take}
 use lib.Seq.{take-all}
+use Rattle.whole.specs.Laid.{Laid}
 use Rattle.frames.specs.Hex.{hexOf}
 use Rattle.frames.specs.Number.{n8}
-use Rattle.frames.specs.Answer.{figureBytes, Laid}
-use Rattle.frames.proofs.Laid.{laid-none, laid-same, laid-size, laid-then}
+use Rattle.frames.specs.Answer.{figureBytes}
+use Rattle.whole.proofs.Laid.{laid-none, laid-same, laid-size, laid-then}
 use Rattle.frames.proofs.Digits.{figures-next}
 use Rattle.frames.proofs.answer.put_figures.Statement.{statement}
 use Rattle.frames.proofs.answer.put_figures.Tie as tie
@@ -52,11 +53,7 @@ put-figures-spec =
     Inv-loop
     μ-loop
     loop-holds
-    (λ c. search needs)
-    (λ c. search needs)
-    (λ c κs. search needs)
-    (λ c. search needs)
-    (λ c. search needs)
+    (λ c. search needs) (λ c. search needs) (λ c κs. search needs) (λ c. search needs) (λ c. search needs)
     loop-again
     (λ c. search needs)
     returns)

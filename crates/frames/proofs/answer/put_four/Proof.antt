@@ -2,7 +2,7 @@
 use native.Mathlib.Omega.{arith}
 use Rattle.frames.specs.Hex.{hexOf}
 use Rattle.frames.specs.Number.{twoBytes, fourBytes}
-use Rattle.frames.proofs.Laid.{laid-then}
+use Rattle.whole.proofs.Laid.{laid-then}
 use borrow.Author.Needs.{needs}
 use Rattle.frames.proofs.answer.put_four.Statement.{statement}
 use Rattle.frames.proofs.answer.put_four.Tie as tie

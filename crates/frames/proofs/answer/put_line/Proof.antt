@@ -1,6 +1,6 @@
 -- `answer::put_line` meets its contract: its three parts, one after another. Assumes nothing.
 use native.Mathlib.Omega.{arith}
-use Rattle.frames.proofs.Laid.{laid-same, laid-then}
+use Rattle.whole.proofs.Laid.{laid-same, laid-then}
 use Rattle.frames.proofs.Digits.{answer-parts}
 use borrow.Author.Needs.{needs}
 use Rattle.frames.proofs.answer.put_line.Statement.{statement}

@@ -6,8 +6,8 @@ use Rattle.frames.specs.Hex.{hexOf}
 use Rattle.frames.specs.Number.{twoBytes, fourBytes, eightBytes, n8}
 use mir.Syntax.{w64}
 use mir.Val.{ofZ}
-use Rattle.frames.proofs.Sign.{back}
-use Rattle.frames.proofs.Laid.{laid-same, laid-then}
+use Rattle.frames.proofs.number.Sign.{back}
+use Rattle.whole.proofs.Laid.{laid-same, laid-then}
 use borrow.Author.Needs.{needs}
 use Rattle.frames.proofs.answer.put_n8.Statement.{statement}
 use Rattle.frames.proofs.answer.put_n8.Tie as tie

@@ -2,7 +2,7 @@
 use native.Mathlib.Omega.{arith}
 use Rattle.frames.specs.Hex.{hexOf}
 use Rattle.frames.specs.Number.{twoBytes}
-use Rattle.frames.proofs.Laid.{laid-then}
+use Rattle.whole.proofs.Laid.{laid-then}
 use borrow.Author.Needs.{needs}
 use Rattle.frames.proofs.answer.put_two.Statement.{statement}
 use Rattle.frames.proofs.answer.put_two.Tie as tie
@@ -17,9 +17,5 @@ pub put-two-spec : {M : Type 1} → statement M
 put-two-spec =
     tie.close
     (tie.spec
-    (λ c. search needs)
-    (λ c κs. search needs)
-    (λ c. search needs)
-    (λ c κs. search needs)
-    (λ c. search needs)
+    (λ c. search needs) (λ c κs. search needs) (λ c. search needs) (λ c κs. search needs) (λ c. search needs)
     returns)

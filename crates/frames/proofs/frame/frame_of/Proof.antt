@@ -32,9 +32,7 @@ frame-of-spec =
     (tie.spec
     (λ c. search needs)
     returns
-    (λ c. search needs)
-    (λ c κs. search needs)
-    (λ c. search needs)
+    (λ c. search needs) (λ c κs. search needs) (λ c. search needs)
     slice-aggregate-read-frame
     (λ c κs. search needs)
     returns-2

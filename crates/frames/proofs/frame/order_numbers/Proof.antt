@@ -15,10 +15,6 @@ pub order-numbers-spec : {M : Type 1} → statement M
 order-numbers-spec =
     tie.close
     (tie.spec
-    (λ c. search needs)
-    (λ c. search needs)
-    (λ c. search needs)
-    (λ c. search needs)
-    (λ c κs. search needs)
+    (λ c. search needs) (λ c. search needs) (λ c. search needs) (λ c. search needs) (λ c κs. search needs)
     (λ c κs. search needs)
     returns)

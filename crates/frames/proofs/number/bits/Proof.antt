@@ -7,7 +7,7 @@ use lib.IntN.{ℤ, pos, natAbs}
 use lib.Signed.{ltZ, nonNeg}
 use mir.Syntax.{w64}
 use mir.Val.{Fits}
-use Rattle.frames.proofs.Sign.{back, minus-fits, minus-read, negative-cast, negative-small, negative-bits, other-cast, other-bits}
+use Rattle.frames.proofs.number.Sign.{back, minus-fits, minus-read, negative-cast, negative-small, negative-bits, other-cast, other-bits}
 use Rattle.frames.proofs.number.bits.Statement.{statement}
 use Rattle.frames.proofs.number.bits.Tie as tie
 

@@ -7,7 +7,7 @@ use lib.IntN.{ℤ, pos, negsuc, _-ℤ_}
 use mir.Syntax.{w64}
 use mir.Val.{SFits, toZ}
 use mir.Facts.{toZ-pos, toZ-ofZ, toZ-neg}
-use Rattle.frames.proofs.Sign.{mirror-is}
+use Rattle.frames.proofs.number.Sign.{mirror-is}
 use Rattle.frames.proofs.number.signed.Statement.{statement}
 use Rattle.frames.proofs.number.signed.Tie as tie
 

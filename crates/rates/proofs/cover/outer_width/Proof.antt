@@ -28,8 +28,7 @@ pub outer-width-spec : {M : Type 1} → statement M
 outer-width-spec =
     tie.close
     (tie.spec
-    (λ c. search needs)
-    (λ c. search needs)
+    (λ c. search needs) (λ c. search needs)
     sub-greater
     (λ c. search needs)
     sub-greater-2

@@ -8,14 +8,14 @@ use Rattle.rates.proofs.row.equal_for_commodity.Statement.{statement}
 use Rattle.rates.proofs.row.equal_for_commodity.Tie as tie
 
 returns : tie.Need-returns
-returns c = where-not _ _ (taken (c .before .number-between .ensures) (c .if1 .taken))
+returns c = where-not _ _ (taken (c .before .number-is .ensures) (c .if1 .taken))
 
 returns-2 : tie.Need-returns-2
 returns-2 c =
     let e = c .before .before in
-    c .number-between2 .ensures
-    ∙ equal-back _ (sfits-of (c .before .other .given))
-    ∙ where-so _ _ (left (e .before .number-between .ensures) (e .if1 .left))
+    c .number-is2 .ensures
+    ∙ equal-back _ (sfits-of (c .before .number-is-arg .given))
+    ∙ where-so _ _ (left (e .before .number-is .ensures) (e .if1 .left))
 
 pub equal-for-commodity-spec : {M : Type 1} → statement M
 equal-for-commodity-spec =
@@ -23,8 +23,5 @@ equal-for-commodity-spec =
     (tie.spec
     (λ c κs. search needs)
     returns
-    (λ c. search needs)
-    (λ c. search needs)
-    (λ c. search needs)
-    (λ c κs. search needs)
+    (λ c. search needs) (λ c. search needs) (λ c. search needs) (λ c. search needs) (λ c κs. search needs)
     returns-2)

@@ -1,26 +1,25 @@
--- `rates::tables::broken_own` meets its contract: what is left from row a on, with the numbers before it, is what there was.
--- Assumes nothing.
-use mathlib.Core.Path.{_≡_, ap, ap₂, _∙_}
+-- `rates::tables::broken_own` meets its contract: the rows before row a were passed. Assumes nothing.
+use mathlib.Core.Path.{_≡_, refl, ap, ap₂, _∙_}
 use mathlib.Core.List.{List}
-use Prim.Native.Nat.{_*_, _≤_, _-_}
-use native.Mathlib.Omega.{arith}
+use Prim.Native.Nat.{_*_, _-_}
 use lib.IntN.{ℤ}
 use lib.ListN.{length}
 use denote.Ref.{now}
 use borrow.Author.Needs.{needs}
-use Rattle.whole.specs.Marks.{firstFalse, pieces}
-use Rattle.rates.specs.Tables.{ownRowMarks, ownMarks}
+use Rattle.whole.specs.Marks.{firstFalse}
 use Rattle.whole.proofs.Parts.{cut}
-use Rattle.whole.proofs.Marks.{from-piece, piece-right, piece-wrong, pieces-end}
+use Rattle.whole.proofs.Marks.{Passed, none-passed, piece-passed, found-in, all-passed}
+use Rattle.rates.specs.Units.{assets, rowLength, tableLength}
+use Rattle.rates.specs.Tables.{ownRowMarks, ownMarks}
 use Rattle.rates.proofs.Counts.{row-long, own-marks-count}
 use Rattle.rates.proofs.tables.broken_own.Statement.{statement}
 use Rattle.rates.proofs.tables.broken_own.Tie as tie
 
 abbrev Inv-loop : tie.InvT-loop
-Inv-loop clearing own a₀ a = (a ≤ 16) × (firstFalse (pieces (ownMarks clearing own) 0 16) ≡ from-piece (ownMarks clearing own) 64 16 a)
+Inv-loop clearing own a₀ a = Passed (ownMarks clearing own) tableLength rowLength assets a
 
 abbrev μ-loop : tie.MeasureT-loop
-μ-loop clearing own a₀ a = 16 - a
+μ-loop clearing own a₀ a = assets - a
 
 found : (c : tie.After-broken-own-row Inv-loop μ-loop)
     → let l = c .before .before .before .before in
@@ -30,11 +29,8 @@ found c =
     let a = c .before .before .before .before .loop .a in
     c .broken-own-row .ensures ∙ ap₂ (λ (own clearing : List ℤ). firstFalse (ownRowMarks own clearing)) (cut (64 * a) 64 _) (cut (64 * a) 64 _)
 
-loop-holds : tie.Need-loop-holds Inv-loop μ-loop
-loop-holds c = (search needs, omega arith)
-
-broken-own-row-requires : tie.Need-broken-own-row-requires Inv-loop μ-loop
-broken-own-row-requires c κs =
+rows-lent : tie.Need-broken-own-row-requires Inv-loop μ-loop
+rows-lent c κs =
     let l = c .before .before .before in
     let a = l .loop .a in (
       ap length (cut (64 * a) 64 _) ∙ row-long _ (l .before .pre .1) a (c .before .before .loop-test .taken),
@@ -44,23 +40,14 @@ broken-own-row-requires c κs =
 returns : tie.Need-returns Inv-loop μ-loop
 returns c =
     let l = c .before .before .before .before .before in
-    let t = now (l .before .args .clearing) in
-    let o = now (l .before .args .own) in
-    let e = found (c .before) in
-    omega (arith, piece-wrong (ownMarks t o) 64 16 (l .loop .a) (omega arith) (own-marks-count t o (omega arith) (l .loop .a) (omega arith)) (omega arith))
+    let h = c .before .before .before .before .loop-test .taken in
+    found-in (l .loop .inv) h (own-marks-count _ _ (l .before .pre .1) (l .loop .a) h) (found (c .before)) (c .if1 .taken) refl
 
 loop-again : tie.Need-loop-again Inv-loop μ-loop
 loop-again c =
     let l = c .before .before .before .before .before in
-    let t = now (l .before .args .clearing) in
-    let o = now (l .before .args .own) in
-    let e = found (c .before) in
-    (search needs, l .loop .inv .1 ∙ piece-right (ownMarks t o) 64 16 (l .loop .a) (omega arith) (own-marks-count t o (omega arith) (l .loop .a) (omega arith)) (omega arith))
-
-returns-2 : tie.Need-returns-2 Inv-loop μ-loop
-returns-2 c =
-    let s = c .before .before .args in
-    omega (arith, pieces-end (ownMarks (now (s .clearing)) (now (s .own))) 64 16 (c .before .loop .a) (omega arith))
+    let h = c .before .before .before .before .loop-test .taken in
+    piece-passed (l .loop .inv) h (own-marks-count _ _ (l .before .pre .1) (l .loop .a) h) (found (c .before)) (c .if1 .left)
 
 pub broken-own-spec : {M : Type 1} → statement M
 broken-own-spec =
@@ -68,22 +55,13 @@ broken-own-spec =
     (tie.spec
     Inv-loop
     μ-loop
-    loop-holds
+    (λ c. none-passed)
+    (λ c. search needs) (λ c. search needs) (λ c. search needs) (λ c. search needs) (λ c. search needs)
+    (λ c. search needs) (λ c. search needs) (λ c. search needs) (λ c. search needs) (λ c. search needs)
     (λ c. search needs)
-    (λ c. search needs)
-    (λ c. search needs)
-    (λ c. search needs)
-    (λ c. search needs)
-    (λ c. search needs)
-    (λ c. search needs)
-    (λ c. search needs)
-    (λ c. search needs)
-    (λ c. search needs)
-    (λ c. search needs)
-    broken-own-row-requires
-    (λ c. search needs)
+    rows-lent
+    (λ c. search needs) (λ c. search needs)
     returns
-    (λ c. search needs)
-    (λ c. search needs)
+    (λ c. search needs) (λ c. search needs)
     loop-again
-    returns-2)
+    (λ c. all-passed (c .before .loop .inv) (c .loop-test .left) refl))

@@ -12,9 +12,9 @@ use Rattle.whole.proofs.Tests.{left, taken, first-out, and-then}
 use Rattle.rates.proofs.tables.own_kind_right.Statement.{statement}
 use Rattle.rates.proofs.tables.own_kind_right.Tie as tie
 
-same-kind : (c : tie.After-number-between)
-    → c .number-between .result ≡ equal (kind (now (c .before .before .args .own))) (kind (now (c .before .before .args .clearing)))
-same-kind c = c .number-between .ensures ∙ equal-back _ (sfits-of (c .before .kind .given))
+same-kind : (c : tie.After-number-is)
+    → c .number-is .result ≡ equal (kind (now (c .before .before .args .own))) (kind (now (c .before .before .args .clearing)))
+same-kind c = c .number-is .ensures ∙ equal-back _ (sfits-of (c .before .number-is-arg .given))
 
 returns : tie.Need-returns
 unfolding ownKindRight
@@ -22,14 +22,13 @@ returns c = sym (first-out _ _ (taken (same-kind (c .before)) (c .if1 .taken)))
 
 returns-2 : tie.Need-returns-2
 unfolding ownKindRight
-returns-2 c = and-then _ _ (left (same-kind (c .before .before)) (c .before .if1 .left)) (ap not (c .number-between2 .ensures))
+returns-2 c = and-then _ _ (left (same-kind (c .before .before)) (c .before .if1 .left)) (ap not (c .number-is2 .ensures))
 
 pub own-kind-right-spec : {M : Type 1} → statement M
 own-kind-right-spec =
     tie.close
     (tie.spec
-    (λ c. search needs)
-    (λ c κs. search needs)
+    (λ c. search needs) (λ c κs. search needs)
     returns
     (λ c κs. search needs)
     returns-2)

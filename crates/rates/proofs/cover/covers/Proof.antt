@@ -1,4 +1,4 @@
--- `rates::covers` meets its contract: a row of another length or with a broken number is not sound; a sound one is in its ranges.
+-- `rates::cover::covers` meets its contract: a row of another length or with a broken number is not sound; a sound one is in its ranges.
 -- Assumes nothing.
 use mathlib.Core.Path.{_≡_, sym}
 use mathlib.Core.Bool.{true}
@@ -8,8 +8,8 @@ use borrow.Author.Tests.{ne-eqb}
 use Rattle.whole.proofs.Tests.{first-out, and-then}
 use Rattle.rates.specs.InForce.{soundRow}
 use Rattle.rates.proofs.Ranges.{row-ranges, sound-by, broken-by}
-use Rattle.rates.proofs.covers.Statement.{statement}
-use Rattle.rates.proofs.covers.Tie as tie
+use Rattle.rates.proofs.cover.covers.Statement.{statement}
+use Rattle.rates.proofs.cover.covers.Tie as tie
 
 sound : (c : tie.Else2) → soundRow (now (c .before .before .before .args .row)) ≡ true
 sound c = sound-by _ (c .before .before .if1 .left) _ (c .before .broken-number .ensures) (c .if2 .left)

@@ -1,0 +1,2 @@
+-- What the proofs of a row's dates use: the comparisons as the code makes them.
+pub mod Comparisons
