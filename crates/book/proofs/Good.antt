@@ -10,19 +10,19 @@ use lib.IntN.{ℤ, pos}
 use lib.ListN.{length, drop, length-drop}
 use lib.Seq.{getD-drop}
 use Rattle.whole.specs.Bounds.{between, isZero, _upto_}
-use Rattle.whole.specs.Marks.{allTrue}
+use Rattle.whole.specs.Marks.{allTrue, allZero}
 use Rattle.whole.specs.Parts.{number}
 use Rattle.whole.proofs.Bounds.{amid, equal-says}
 use Rattle.whole.proofs.Marks.{all-at, all-numbers}
 use Rattle.whole.proofs.Parts.{part-at}
 use Rattle.whole.proofs.Rules.{ints}
 use Rattle.whole.proofs.Tests.{both, and-left, and-right}
-use Rattle.book.specs.Block.{accountKind, rubleNumbers, holdingOf, collateral}
-use Rattle.book.specs.Rules.{rublesRight, collateralRight, quantityRight, allZero, headMarks, holdingRight, inBounds, goodBlock}
+use Rattle.whole.proofs.Every.{every-by}
+use Rattle.book.specs.Block.{accountKind, rubleNumbers, holdingOf, collateral, InHead}
+use Rattle.book.specs.Rules.{rublesRight, collateralRight, quantityRight, headMarks, holdingRight, inBounds, goodBlock, holdingRightAt}
 use Rattle.book.specs.Ranges.{BlockRanges}
 use Rattle.whole.proofs.Lists.{all-by}
-use Rattle.book.proofs.Blocks.{InHead, rubles-length, holding-length}
-use Rattle.book.proofs.Holdings.{holdings-by}
+use Rattle.book.proofs.Blocks.{rubles-length, holding-length}
 use Rattle.book.proofs.InBounds.{zero-rubles, zero-collateral, zero-quantity, ruble-ranges, holding-ranges}
 
 -- ---- the two kinds of good blocks
@@ -69,7 +69,7 @@ module _ (block : List ℤ) (empty : allZero block ≡ true) where
         both (allTrue (map rublesRight (rubleNumbers block))) _
         (all-by rublesRight (pos 0) (rubleNumbers block)
         (λ k h. ap rublesRight (part-at (pos 0) 1 9 block k (omega (arith, rubles-length block long)) ∙ number-zero (1 + k)) ∙ zero-rubles))
-        (holdings-by block 16 empty-holding)
+        (every-by (holdingRightAt block) 16 empty-holding)
 
 -- ---- every good block
 module _ (block : List ℤ) (long : length block ≡ 288) (good : goodBlock block ≡ true) where

@@ -8,19 +8,19 @@ use lib.IntN.{ℤ, pos}
 use lib.ListN.{length, drop}
 use lib.Seq.{getD-drop}
 use Rattle.whole.specs.Bounds.{between, _within_, _upto_}
-use Rattle.whole.specs.Marks.{allTrue}
+use Rattle.whole.specs.Marks.{allTrue, every}
 use Rattle.whole.specs.Parts.{number}
 use Rattle.whole.proofs.Bounds.{amid, upto-by, upto-within, wider}
 use Rattle.whole.proofs.Marks.{all-numbers}
 use Rattle.whole.proofs.Parts.{part-at}
 use Rattle.whole.proofs.Rules.{ints}
 use Rattle.whole.proofs.Tests.{and-left, and-right}
+use Rattle.whole.proofs.Every.{every-at}
 use Rattle.book.specs.Block.{rubleNumbers, holdingOf, collateral, claim, obligation}
-use Rattle.book.specs.Rules.{rublesRight, collateralRight, quantityRight, holdingRight, holdingsRight, inBounds}
+use Rattle.book.specs.Rules.{rublesRight, collateralRight, quantityRight, holdingRight, inBounds, holdingRightAt}
 use Rattle.book.specs.Ranges.{HoldingRanges, RubleRanges}
 use Rattle.book.proofs.Amounts.{large}
 use Rattle.book.proofs.Blocks.{rubles-length, holding-length}
-use Rattle.book.proofs.Holdings.{holdings-at}
 
 -- 0 keeps every bound
 pub zero-rubles : rublesRight (pos 0) ≡ true
@@ -72,14 +72,14 @@ module _ {holding : List ℤ} (h : HoldingRanges holding) where
 module _ (block : List ℤ) (long : length block ≡ 288) (right : inBounds block ≡ true) where
   pub rubles-right : allTrue (map rublesRight (rubleNumbers block)) ≡ true
   unfolding inBounds
-  rubles-right = and-left _ (holdingsRight block 16) right
+  rubles-right = and-left _ (every 16 (holdingRightAt block)) right
 
-  pub all-holdings-right : holdingsRight block 16 ≡ true
+  pub all-holdings-right : every 16 (holdingRightAt block) ≡ true
   unfolding inBounds
   all-holdings-right = and-right (allTrue (map rublesRight (rubleNumbers block))) _ right
 
   pub holding-right-at : (a : ℕ) → a < 16 → holdingRight (holdingOf block a) ≡ true
-  holding-right-at a l = holdings-at block 16 a l all-holdings-right
+  holding-right-at a l = every-at (holdingRightAt block) 16 a l all-holdings-right
 
   pub ruble-ranges : RubleRanges (rubleNumbers block)
   ruble-ranges = record {

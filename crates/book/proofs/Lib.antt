@@ -12,7 +12,6 @@ pub mod Opened
 pub mod Traded
 pub mod Moved
 pub mod MoveAndTrade
-pub mod Codes
-pub mod DayLater
 pub mod Rolled
-pub mod RollFits
+pub mod Allowed
+pub mod AtAccount

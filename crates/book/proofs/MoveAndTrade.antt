@@ -14,19 +14,19 @@ use Rattle.book.specs.Block.{moveAt}
 use Rattle.book.specs.Rules.{inBounds}
 use Rattle.book.specs.Changes.{added, moneyOf, traded, moved}
 use Rattle.book.specs.Ranges.{TradeRanges, MoveAsset}
-use Rattle.book.specs.declared.Trade.{Trade}
+use Rattle.book.specs.declared.changes.Trade.{Trade}
 use Rattle.book.proofs.Changed.{number-beside, added-apart}
-use Rattle.book.proofs.Moved.{at-place}
+use Rattle.book.proofs.Moves.{at-place}
 use Rattle.book.proofs.Replaced.{ruble-bounds, collateral-bounds}
 use Rattle.book.proofs.Trades.{quantityAt, netAt}
 
 module _ (t : Trade) (r : TradeRanges t) (asset : ℕ) (m : MoveAsset asset) where
   quantity-apart : moveAt asset ≢ quantityAt t
-  quantity-apart = at-place (λ k. k ≢ quantityAt t) asset m
+  quantity-apart = at-place (λ k most. k ≢ quantityAt t) asset m
       (λ l e. ⊎-elim (λ h. omega arith) (λ h. omega arith) (lt-or-ge (t .asset) asset)) (λ e. omega arith)
 
   net-apart : moveAt asset ≢ netAt t
-  net-apart = at-place (λ k. k ≢ netAt t) asset m (λ l e. omega arith) (λ e. omega arith)
+  net-apart = at-place (λ k most. k ≢ netAt t) asset m (λ l e. omega arith) (λ e. omega arith)
 
   module _ (block : List ℤ) where
     -- a trade leaves every collateral
@@ -49,6 +49,6 @@ pub moved-bounds : (block other : List ℤ) (asset : ℕ) (amount : ℤ) → Mov
     → inBounds (moved other asset amount) ≡ inBounds (moved block asset amount)
 unfolding moved added
 moved-bounds block other asset amount m long long′ right right′ =
-    at-place (λ k. number other k ≡ number block k → inBounds (set other k (number other k +ℤ amount)) ≡ inBounds (set block k (number block k +ℤ amount))) asset m
+    at-place (λ k most. number other k ≡ number block k → inBounds (set other k (number other k +ℤ amount)) ≡ inBounds (set block k (number block k +ℤ amount))) asset m
     (λ l e. collateral-bounds other long′ right′ asset _ l ∙ rw e (sym (collateral-bounds block long right asset _ l)))
     (λ e. ruble-bounds other long′ right′ 0 _ (omega arith) ∙ rw e (sym (ruble-bounds block long right 0 _ (omega arith))))

@@ -11,11 +11,11 @@ use lib.ListN.{length, length-set}
 use lib.Seq.{getD-set-same, getD-set-other}
 use borrow.Author.Tests.{lt-leb}
 use Rattle.whole.specs.Bounds.{between, isZero}
-use Rattle.whole.specs.Marks.{allTrue}
+use Rattle.whole.specs.Marks.{allTrue, allZero}
 use Rattle.whole.specs.Parts.{number}
 use Rattle.whole.proofs.Tests.{both, second-out, true-not-false}
 use Rattle.book.specs.Block.{accountKind}
-use Rattle.book.specs.Rules.{rublesRight, allZero, headMarks, inBounds, goodBlock}
+use Rattle.book.specs.Rules.{rublesRight, headMarks, inBounds, goodBlock}
 use Rattle.book.specs.Changes.{opened}
 use Rattle.whole.proofs.Lists.{all, part-set-other, next, last, passes}
 use Rattle.book.proofs.Good.{good-open, number-zero, empty-in-bounds}

@@ -8,13 +8,14 @@ use native.Mathlib.Omega.{arith}
 use lib.IntN.{ℤ, pos}
 use lib.ListN.{length, drop, set, length-drop}
 use lib.Seq.{drop-set-add, drop-set-lt, getD-set-same, getD-set-other}
-use Rattle.whole.specs.Marks.{allTrue}
+use Rattle.whole.specs.Marks.{allTrue, every}
 use Rattle.whole.proofs.Numbers.{lt-or-ge}
+use Rattle.whole.proofs.Every.{every-but}
 use Rattle.book.specs.Block.{rubleNumbers, holdingOf}
-use Rattle.book.specs.Rules.{rublesRight, collateralRight, quantityRight, holdingRight, holdingsRight, inBounds}
+use Rattle.book.specs.Rules.{rublesRight, collateralRight, quantityRight, holdingRight, inBounds, holdingRightAt}
 use Rattle.whole.proofs.Lists.{part-set, part-set-other, all, all-set, and-true}
 use Rattle.book.proofs.Blocks.{rubles-length, holding-length}
-use Rattle.book.proofs.Holdings.{holdings-but, holdings-same}
+use Rattle.book.proofs.Holdings.{holdings-same}
 use Rattle.book.proofs.InBounds.{collateral-right, quantities-right, rubles-right, all-holdings-right, holding-right-at}
 
 -- ---- a holding of 17 numbers in bounds, one of them replaced: its test decides
@@ -48,7 +49,7 @@ module _ (block : List ℤ) (k : ℕ) (x : ℤ) where
   holding-set a i l e = ap (λ (j : ℕ). holdingOf (set block j x) a) e ∙ part-set (16 + 17 * a) 17 block x i l
 
   -- every holding where it stands before them
-  pub holdings-beside : k < 16 → holdingsRight (set block k x) 16 ≡ holdingsRight block 16
+  pub holdings-beside : k < 16 → every 16 (holdingRightAt (set block k x)) ≡ every 16 (holdingRightAt block)
   holdings-beside h = holdings-same (set block k x) block 16 (λ a l. holding-beside a (inl (omega arith)))
 
 -- ---- the bounds of a block in which numbers were replaced
@@ -57,9 +58,9 @@ module _ (block : List ℤ) (long : length block ≡ 288) (right : inBounds bloc
   rubles-then i x l =
       all-set rublesRight (rubleNumbers block) i x (omega (arith, rubles-length block long)) (rubles-right block long right)
 
-  holdings-then : (k : ℕ) (x : ℤ) (a i : ℕ) → a < 16 → i < 17 → k ≡ 16 + 17 * a + i → holdingsRight (set block k x) 16 ≡ holdingRight (set (holdingOf block a) i x)
+  holdings-then : (k : ℕ) (x : ℤ) (a i : ℕ) → a < 16 → i < 17 → k ≡ 16 + 17 * a + i → every 16 (holdingRightAt (set block k x)) ≡ holdingRight (set (holdingOf block a) i x)
   holdings-then k x a i l h e =
-      holdings-but (set block k x) 16 a l
+      every-but (holdingRightAt (set block k x)) 16 a l
       (λ b q apart. ap holdingRight (holding-beside block k x b (⊎-elim (λ p. inl (omega arith)) (λ p. inr (omega arith)) (lt-or-ge a b)))
       ∙ holding-right-at block long right b q)
       ∙ ap holdingRight (holding-set block k x a i h e)

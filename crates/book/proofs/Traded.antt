@@ -1,6 +1,6 @@
--- What a trade leaves, for callers: taken back it leaves nothing, it changes one number of its asset and one of the rubles, and a good block in
+-- What a trade leaves, for callers: taken back it leaves the block as it was, it changes one number of its asset and one of the rubles, and a good block in
 -- bounds after it is good. Assumes nothing.
-use mathlib.Core.Path.{_≡_, ap, _∙_}
+use mathlib.Core.Path.{_≡_, ap, ap₂, _∙_}
 use mathlib.Core.Logic.{_≢_, inl, inr, ⊎-elim}
 use mathlib.Core.Bool.{true, false}
 use mathlib.Core.List.{List}
@@ -12,33 +12,30 @@ use Rattle.whole.specs.Bounds.{isZero}
 use Rattle.whole.specs.Parts.{number}
 use Rattle.whole.proofs.Numbers.{lt-or-ge}
 use Rattle.rates.specs.Tables.{listed}
-use Rattle.book.specs.Block.{accountKind, rubleNumbers, holdingOf}
+use Rattle.book.specs.Block.{accountKind, rubleNumbers, holdingOf, InHead}
 use Rattle.book.specs.Rules.{inBounds, goodBlock, holdsListed}
-use Rattle.book.specs.Changes.{added, moneyOf, traded, untraded}
+use Rattle.book.specs.Changes.{added, moneyOf, traded, reversed}
 use Rattle.book.specs.Ranges.{TradeRanges}
-use Rattle.book.specs.declared.Trade.{Trade}
-use Rattle.book.proofs.Blocks.{InHead}
+use Rattle.book.specs.declared.changes.Trade.{Trade}
 use Rattle.book.proofs.Changed.{added-length, number-beside, added-back, added-apart, part-added, part-beside}
 use Rattle.book.proofs.Good.{still-good}
 use Rattle.book.proofs.Holdings.{holds-listed-but}
-use Rattle.book.proofs.Trades.{quantityAt, netAt, in-holding, among-quantities, net-apart, quantity-inside, net-inside}
+use Rattle.book.proofs.Trades.{money-reversed, quantityAt, netAt, in-holding, among-quantities, net-apart, quantity-inside, net-inside}
 
 module _ (block : List ℤ) (t : Trade) where
   pub traded-length : length (traded block t) ≡ length block
   unfolding traded
   traded-length = added-length (added block (quantityAt t) (t .quantity)) (netAt t) (moneyOf t) ∙ added-length block (quantityAt t) (t .quantity)
 
-  pub untraded-length : length (untraded block t) ≡ length block
-  unfolding untraded
-  untraded-length = added-length (added block (quantityAt t) (negℤ (t .quantity))) (netAt t) (negℤ (moneyOf t)) ∙ added-length block (quantityAt t) (negℤ (t .quantity))
-
 module _ (block : List ℤ) (t : Trade) (r : TradeRanges t) where
-  pub untraded-traded : length block ≡ 288 → untraded (traded block t) t ≡ block
-  unfolding traded untraded
-  untraded-traded long =
-      ap (λ (b : List ℤ). added b (netAt t) (negℤ (moneyOf t)))
+  -- reversed, it takes the trade back
+  pub traded-back : length block ≡ 288 → traded (traded block t) (reversed t) ≡ block
+  unfolding traded reversed
+  traded-back long =
+      ap₂ (λ (b : List ℤ) (z : ℤ). added b (netAt t) z)
       (added-apart (added block (quantityAt t) (t .quantity)) (netAt t) (moneyOf t) (quantityAt t) (negℤ (t .quantity)) (net-apart t r)
       ∙ ap (λ (b : List ℤ). added b (netAt t) (moneyOf t)) (added-back block (quantityAt t) (t .quantity) (quantity-inside t r block long)))
+      (money-reversed t)
       ∙ added-back block (netAt t) (moneyOf t) (net-inside t r block long)
 
   -- the head is as it was
@@ -74,5 +71,5 @@ module _ (block : List ℤ) (t : Trade) (r : TradeRanges t) where
   traded-good = still-good block (traded block t) traded-head
 
   -- an asset that is traded is listed
-  pub traded-listed : (clearing : List ℤ) → holdsListed block clearing 16 ≡ true → listed clearing (t .asset) ≡ true → holdsListed (traded block t) clearing 16 ≡ true
-  traded-listed clearing = holds-listed-but block (traded block t) clearing 16 (t .asset) (λ a l apart. traded-holding-other a apart)
+  pub traded-listed : (clearing : List ℤ) → holdsListed block clearing ≡ true → listed clearing (t .asset) ≡ true → holdsListed (traded block t) clearing ≡ true
+  traded-listed clearing = holds-listed-but block (traded block t) clearing (t .asset) (λ a l apart. traded-holding-other a apart)

@@ -1,5 +1,5 @@
 -- Laws of a trade: its money, the two numbers that it changes, and when the block is in bounds after it. Assumes nothing.
-use mathlib.Core.Path.{_≡_, sym, ap, _∙_, subst}
+use mathlib.Core.Path.{_≡_, refl, sym, ap, _∙_, subst}
 use mathlib.Core.Logic.{_≢_}
 use mathlib.Core.Bool.{Bool, true, false, cond, _&&_}
 use mathlib.Core.List.{List}
@@ -13,12 +13,14 @@ use borrow.Author.Tests.{eq-eqb, ne-eqb}
 use Rattle.whole.specs.Bounds.{_within_, _upto_}
 use Rattle.whole.specs.Parts.{number}
 use Rattle.whole.proofs.Bounds.{upto-within, wider}
-use Rattle.whole.proofs.Tests.{both, first-out, second-out}
+use Rattle.whole.proofs.PlusMinus.{neg-is}
+use Rattle.whole.proofs.Rules.{ints}
+use Rattle.whole.proofs.Tests.{second-out}
 use Rattle.book.specs.Block.{tradeAt, rubleNetAt}
 use Rattle.book.specs.Rules.{rublesRight, quantityRight, inBounds}
-use Rattle.book.specs.Changes.{added, moneyOf, traded}
-use Rattle.book.specs.Ranges.{TradeRanges}
-use Rattle.book.specs.declared.Trade.{Trade}
+use Rattle.book.specs.Changes.{added, moneyOf, traded, reversed}
+use Rattle.book.specs.Ranges.{TradeRanges, Tradable}
+use Rattle.book.specs.declared.changes.Trade.{Trade}
 use Rattle.book.proofs.Amounts.{large, negative-within}
 use Rattle.book.proofs.Changed.{added-length, number-beside}
 use Rattle.book.proofs.InBounds.{ruble-at, quantity-at}
@@ -39,8 +41,26 @@ unfolding moneyOf
 money-within {t} r = go (eqb (t .side) 0)
   where
     go : (b : Bool) → cond b (negℤ (t .money)) (t .money) within large
-    go true = negative-within (upto-within (r .money-upto))
-    go false = upto-within (r .money-upto)
+    go true = negative-within (r .money-within)
+    go false = r .money-within
+
+pub money-reversed : (t : Trade) → moneyOf (reversed t) ≡ negℤ (moneyOf t)
+unfolding moneyOf reversed
+money-reversed t = go (eqb (t .side) 0)
+  where
+    go : (b : Bool) → cond b (negℤ (negℤ (t .money))) (negℤ (t .money)) ≡ negℤ (cond b (negℤ (t .money)) (t .money))
+    go true = refl
+    go false = refl
+
+pub reversed-ranges : {t : Trade} → TradeRanges t → TradeRanges (reversed t)
+unfolding reversed
+reversed-ranges {t} r = record {
+  asset-below = r .asset-below;
+  date-below = r .date-below;
+  side-below = r .side-below;
+  quantity-within = omega (ints, neg-is (t .quantity), r .quantity-within);
+  money-within = negative-within (r .money-within);
+}
 
 -- ---- a trade: the two numbers of a block that it changes, and what they become
 abbrev pub quantityAt : Trade → ℕ
@@ -73,41 +93,39 @@ module _ (t : Trade) (r : TradeRanges t) where
     pub net-inside : netAt t < length block
     net-inside = omega arith
 
--- a block of 288 numbers in bounds, and a trade in range
-abbrev pub Tradable : List ℤ → Trade → Type 0
-Tradable block t = (length block ≡ 288) × (inBounds block ≡ true) × TradeRanges t
-
 module _ (block : List ℤ) (t : Trade) (p : Tradable block t) where
   pub quantity-before : number block (quantityAt t) within large
-  quantity-before = wider large (upto-within (subst (λ (k : ℕ). number block k upto 1000000) (sym (in-holding t (p .2)))
-      (quantity-at block (p .0) (p .1) (t .asset) (8 * t .side + t .date) (p .2 .asset-below) (among-quantities t (p .2))))) (omega arith)
+  quantity-before = wider large (upto-within (subst (λ (k : ℕ). number block k upto 1000000) (sym (in-holding t (p .ranges)))
+      (quantity-at block (p .bounded .long) (p .bounded .in-bounds) (t .asset) (8 * t .side + t .date) (p .ranges .asset-below) (among-quantities t (p .ranges))))) (omega arith)
 
   pub net-before : number block (netAt t) within large
-  net-before = let r = p .2 in
+  net-before = let r = p .ranges in
       subst (λ (k : ℕ). number block k within large) (let e : 1 + (1 + t .date) ≡ 2 + t .date = omega arith in e)
-      (ruble-at block (p .0) (p .1) (1 + t .date) (omega arith))
+      (ruble-at block (p .bounded .long) (p .bounded .in-bounds) (1 + t .date) (omega arith))
 
   trade-in-bounds : inBounds (traded block t) ≡ rublesRight (netAfter block t) && quantityRight (quantityAfter block t)
   unfolding traded added
   trade-in-bounds =
       ap (λ (z : ℤ). inBounds (set (set block (quantityAt t) (quantityAfter block t)) (netAt t) (z +ℤ moneyOf t)))
-      (getD-set-other block (quantityAt t) (netAt t) (quantityAfter block t) (pos 0) (net-apart t (p .2)))
-      ∙ trade-bounds block (p .0) (p .1) (quantityAt t) (t .asset) (8 * t .side + t .date) (t .date) (quantityAfter block t) (netAfter block t)
-      (p .2 .asset-below) (among-quantities t (p .2)) (p .2 .date-below) (in-holding t (p .2))
+      (getD-set-other block (quantityAt t) (netAt t) (quantityAfter block t) (pos 0) (net-apart t (p .ranges)))
+      ∙ trade-bounds block (p .bounded .long) (p .bounded .in-bounds) (quantityAt t) (t .asset) (8 * t .side + t .date) (t .date) (quantityAfter block t) (netAfter block t)
+      (p .ranges .asset-below) (among-quantities t (p .ranges)) (p .ranges .date-below) (in-holding t (p .ranges))
 
   pub quantity-out : quantityRight (quantityAfter block t) ≡ false → inBounds (traded block t) ≡ false
   quantity-out e = trade-in-bounds ∙ second-out (rublesRight (netAfter block t)) (quantityRight (quantityAfter block t)) e
 
-  pub net-out : rublesRight (netAfter block t) ≡ false → inBounds (traded block t) ≡ false
-  net-out e = trade-in-bounds ∙ first-out (rublesRight (netAfter block t)) (quantityRight (quantityAfter block t)) e
-
-  pub trade-fits : quantityRight (quantityAfter block t) ≡ true → rublesRight (netAfter block t) ≡ true → inBounds (traded block t) ≡ true
-  trade-fits e f = trade-in-bounds ∙ both (rublesRight (netAfter block t)) (quantityRight (quantityAfter block t)) f e
+  -- where the quantity keeps its bounds, the net alone decides
+  pub net-alone : quantityRight (quantityAfter block t) ≡ true → inBounds (traded block t) ≡ rublesRight (netAfter block t)
+  net-alone e = trade-in-bounds ∙ rw e (and-true (rublesRight (netAfter block t)))
+    where
+      and-true : (b : Bool) → b && true ≡ b
+      and-true true = refl
+      and-true false = refl
 
   -- after its first number was changed
   module _ (x : ℤ) where
     pub net-inside-then : netAt t < length (added block (quantityAt t) x)
-    net-inside-then = rw (added-length block (quantityAt t) x) (net-inside t (p .2) block (p .0))
+    net-inside-then = rw (added-length block (quantityAt t) x) (net-inside t (p .ranges) block (p .bounded .long))
 
     pub net-then : number (added block (quantityAt t) x) (netAt t) within large
-    net-then = rw (number-beside block (quantityAt t) x (netAt t) (net-apart t (p .2))) net-before
+    net-then = rw (number-beside block (quantityAt t) x (netAt t) (net-apart t (p .ranges))) net-before

@@ -1,9 +1,11 @@
--- Document 01, "Block": where an account's block stands in the book, and each number of a block by its name. Nothing above this file says at
--- which place a number stands.
+-- Document 01, "Block": where an account's block stands in the book, each number of a block by its name, and the bounds. The definitions of every
+-- crate take a number of a block by these names.
 -- Assumes nothing.
+use mathlib.Core.Path.{_≡_}
 use mathlib.Core.Bool.{cond}
+use mathlib.Core.Logic.{_⊎_}
 use mathlib.Core.List.{List}
-use Prim.Native.Nat.{ℕ, _+_, _*_}
+use Prim.Native.Nat.{ℕ, _+_, _*_, _≤_, _<_}
 use lib.Dec.{eqb}
 use lib.IntN.{ℤ}
 use Rattle.whole.specs.Parts.{part, put, number}
@@ -24,10 +26,21 @@ blockOf book i = part (blockLength * i) blockLength book
 abbrev pub putBlock : List ℤ → ℕ → List ℤ → List ℤ
 putBlock book i block = put (blockLength * i) blockLength book block
 
+-- ---- bounds: of rubles in kopecks, and of units of an asset
+abbrev pub mostRubles : ℕ
+mostRubles = 100000000000000
+
+abbrev pub mostUnits : ℕ
+mostUnits = 1000000
+
 -- ---- a block
 -- 0 not open, 1 ordinary, 2 pool, 3 pool of the list in 2.4.2
 abbrev pub accountKind : List ℤ → ℤ
 accountKind block = number block 0
+
+-- the head of a block: its kind, and numbers 10 to 15
+abbrev pub InHead : ℕ → Type 0
+InHead k = (k ≡ 0) ⊎ ((10 ≤ k) × (k < 16))
 
 abbrev pub rubleCollateralAt : ℕ
 rubleCollateralAt = 1
@@ -38,12 +51,6 @@ rubleNetAt date = 2 + date
 -- ruble collateral, and the ruble nets of trades by date
 abbrev pub rubleNumbers : List ℤ → List ℤ
 rubleNumbers block = part 1 9 block
-
-abbrev pub rubleCollateral : List ℤ → ℤ
-rubleCollateral block = number block rubleCollateralAt
-
-abbrev pub rubleNet : List ℤ → ℕ → ℤ
-rubleNet block date = number block (rubleNetAt date)
 
 -- ---- an asset's holding: 17 numbers, from 16 + 17a on
 abbrev pub holdingLength : ℕ

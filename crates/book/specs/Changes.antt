@@ -2,18 +2,16 @@
 -- same amounts taken back leave it as it was.
 -- Assumes nothing.
 use mathlib.Core.Bool.{Bool, not, cond, _&&_, _||_}
-use mathlib.Core.List.{List, [], _∷_}
+use mathlib.Core.List.{List}
 use Prim.Native.Nat.{ℕ}
 use lib.Dec.{eqb}
 use lib.IntN.{ℤ, pos, negℤ, _+ℤ_}
 use lib.ListN.{set}
 use lib.Signed.{ltZ}
-use Rattle.whole.specs.Bounds.{between}
 use Rattle.whole.specs.Parts.{number}
-use Rattle.whole.specs.Refusals.{_gives_, firstCode}
-use Rattle.book.specs.Block.{rubleNetAt, tradeAt, moveAt}
+use Rattle.book.specs.Block.{mostRubles, mostUnits, rubles, rubleNetAt, tradeAt, moveAt}
 use Rattle.book.specs.Rules.{inBounds}
-use Rattle.book.specs.declared.Trade.{Trade}
+use Rattle.book.specs.declared.changes.Trade.{Trade}
 
 unfoldable pub opened : List ℤ → ℤ → List ℤ
 opened block kind = set block 0 kind
@@ -30,28 +28,24 @@ moneyOf t = cond (eqb (t .side) 0) (negℤ (t .money)) (t .money)
 unfoldable pub traded : List ℤ → Trade → List ℤ
 traded block t = added (added block (tradeAt (t .asset) (t .date) (t .side)) (t .quantity)) (rubleNetAt (t .date)) (moneyOf t)
 
--- and with it taken back
-unfoldable pub untraded : List ℤ → Trade → List ℤ
-untraded block t = added (added block (tradeAt (t .asset) (t .date) (t .side)) (negℤ (t .quantity))) (rubleNetAt (t .date)) (negℤ (moneyOf t))
+-- the same with its amounts turned round: booked after it, it leaves the block as it was
+unfoldable pub reversed : Trade → Trade
+reversed t = record { asset = t .asset; date = t .date; side = t .side; quantity = negℤ (t .quantity); money = negℤ (t .money) }
 
 -- code 9 of a trade: a number would leave its bounds
 abbrev pub tradeOut : List ℤ → Trade → Bool
 tradeOut block t = not (inBounds (traded block t))
 
-unfoldable pub tradeCode : List ℤ → Trade → ℕ
-tradeCode block t = firstCode (tradeOut block t gives 9 ∷ [])
-
--- the least that a move may leave of a collateral of size at most `most`: 0 where it is a withdrawal
-unfoldable pub leastAfter : ℤ → ℤ → ℤ
-leastAfter amount most = cond (ltZ amount (pos 0)) (pos 0) (negℤ most)
-
--- code 9 of a move, asked of the number at place k alone
-unfoldable pub moveCodeAt : List ℤ → ℕ → ℤ → ℤ → ℕ
-moveCodeAt block k amount most = firstCode (not (between (leastAfter amount most) (number block k +ℤ amount) most) gives 9 ∷ [])
-
 -- a block with an amount added to the collateral of an asset, or of rubles; a withdrawal adds a negative amount
 unfoldable pub moved : List ℤ → ℕ → ℤ → List ℤ
 moved block asset amount = added block (moveAt asset) amount
+
+-- the most that may stand there, and the least that a move may leave: 0 where it is a withdrawal
+unfoldable pub mostOf : ℕ → ℤ
+mostOf asset = cond (eqb asset rubles) (pos mostRubles) (pos mostUnits)
+
+unfoldable pub leastAfter : ℤ → ℤ → ℤ
+leastAfter amount most = cond (ltZ amount (pos 0)) (pos 0) (negℤ most)
 
 -- a withdrawal would leave collateral below 0
 unfoldable pub overdrawn : List ℤ → ℕ → ℤ → Bool
@@ -60,6 +54,3 @@ overdrawn block asset amount = ltZ amount (pos 0) && ltZ (number (moved block as
 -- code 9 of a move: a number would leave its bounds, or a withdrawal would leave collateral below 0
 abbrev pub moveOut : List ℤ → ℕ → ℤ → Bool
 moveOut block asset amount = not (inBounds (moved block asset amount)) || overdrawn block asset amount
-
-unfoldable pub moveCode : List ℤ → ℕ → ℤ → ℕ
-moveCode block asset amount = firstCode (moveOut block asset amount gives 9 ∷ [])

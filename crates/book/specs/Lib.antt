@@ -3,4 +3,6 @@ pub mod Block
 pub mod Rules
 pub mod Changes
 pub mod Roll
+pub mod Choices
 pub mod Ranges
+pub mod AtAccount

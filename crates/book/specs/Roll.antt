@@ -2,12 +2,12 @@
 -- Assumes nothing.
 use mathlib.Core.Bool.{Bool, not}
 use mathlib.Core.List.{List, [], _∷_, _++_}
-use Prim.Native.Nat.{ℕ, zero, suc}
 use lib.IntN.{ℤ, pos, _+ℤ_, _-ℤ_}
 use lib.ListN.{drop}
-use Rattle.whole.specs.Parts.{part, put, number}
-use Rattle.whole.specs.Refusals.{_gives_, firstCode}
-use Rattle.book.specs.Block.{rubleNumbers, holdingLength, collateralAt, holdingOf, collateral, claim, obligation}
+use Rattle.whole.specs.Parts.{part, number}
+use Rattle.whole.specs.Marks.{pieces}
+use Rattle.rates.specs.Units.{assets}
+use Rattle.book.specs.Block.{rubleNumbers, holdingOf, collateral, claim, obligation}
 use Rattle.book.specs.Rules.{inBounds}
 
 -- eight numbers by date, a day later
@@ -23,17 +23,12 @@ unfoldable pub rolledHolding : List ℤ → List ℤ
 rolledHolding holding =
     (collateral holding +ℤ claim holding 0 -ℤ obligation holding 0) ∷ (dayLater (part 1 8 holding) ++ dayLater (part 9 8 holding))
 
--- a block with its rubles and its first n holdings rolled
-unfoldable pub rolledTo : ℕ → List ℤ → List ℤ
-rolledTo zero block = put 1 9 block (rolledRubles (rubleNumbers block))
-rolledTo (suc a) block = put (collateralAt a) holdingLength (rolledTo a block) (rolledHolding (holdingOf block a))
-
+-- a block stretch by stretch: its kind, the rubles, numbers 10 to 15, and each asset's holding
 unfoldable pub rolled : List ℤ → List ℤ
-rolled block = rolledTo 16 block
+rolled block =
+    part 0 1 block
+    ++ (rolledRubles (rubleNumbers block) ++ (part 10 6 block ++ pieces (λ a. rolledHolding (holdingOf block a)) 0 assets))
 
 -- code 9 of a roll: a number would leave its bounds
 abbrev pub rollOut : List ℤ → Bool
 rollOut block = not (inBounds (rolled block))
-
-unfoldable pub rollCode : List ℤ → ℕ
-rollCode block = firstCode (rollOut block gives 9 ∷ [])

@@ -1,43 +1,40 @@
 ghost use mathlib.Core.Path.{_≡_};
-ghost use mathlib.Core.Bool.{true};
+ghost use mathlib.Core.Bool.{not};
 ghost use Prim.Native.Nat.{_<_};
-ghost use lib.IntN.{negℤ, _+ℤ_};
+ghost use lib.IntN.{_+ℤ_};
 ghost use lib.ListN.{length};
 ghost use Rattle.whole.specs.Bounds.{between, _within_, _upto_};
 ghost use Rattle.whole.specs.Parts.{number};
-ghost use Rattle.whole.specs.Refusals.{leaves};
+ghost use Rattle.book.specs.Block.{blockLength, mostRubles, moveAt, tradeAt};
 ghost use Rattle.book.specs.Rules.{inBounds};
-ghost use Rattle.book.specs.Changes.{opened, added, moneyOf, traded, untraded, tradeCode, leastAfter, moveCodeAt, moved, moveCode};
-ghost use Rattle.book.specs.Ranges.{TradeRanges, MoveAsset};
-use crate::Trade;
-use crate::rules::HOLDING;
-use crate::rules::HOLDINGS_AT;
-use crate::rules::RUBLES;
-use crate::rules::UNITS;
+ghost use Rattle.book.specs.Changes.{opened, added, moneyOf, traded, reversed, mostOf, leastAfter, moved, moveOut};
+ghost use Rattle.book.specs.Ranges.{TradeRanges, Tradable, Movable, MoveAsset};
+use crate::in_block;
+use rates::units;
 
-// What open, a move and a trade leave in a block (document 01, "Calls and turning away").
+// What open, a move and a trade leave in a block (document 01, "Calls and turning away"). A move and a trade add to numbers; the same with the
+// amounts turned round takes them back.
 
-const RUBLE_COLLATERAL: usize = 1;
-
-const RUBLE_NETS_AT: usize = 2;
-
-const MOVE_RUBLES: usize = 255;
-
-const CLAIMS_AT: usize = 17;
-
-const DATES: usize = 8;
+// A trade: a buy on side 0, a sell on side 1.
+pub struct Trade {
+    pub asset: usize,
+    pub date: usize,
+    pub side: usize,
+    pub quantity: i64,
+    pub money: i64,
+}
 
 // Open a block.
-pub fn open(block: &mut [i64], kind: i64)
-    requires { ⌜ 0 < length (now block) ⌝ }
+pub(crate) fn open(block: &mut [i64], kind: i64)
+    requires { ⌜ length (now block) ≡ blockLength ⌝ }
     ensures { λ _. ⌜ now (block .exit) ≡ opened (now (block .entry)) kind ⌝ }
 {
-    block[0] = kind;
+    block[in_block::ACCOUNT_KIND] = kind;
 }
 
 // Whether number k with an amount added lies from low to high.
 fn fits_after(block: &[i64], k: usize, amount: i64, low: i64, high: i64) -> bool
-    requires { ⌜ (k < length (now block)) × (number (now block) k within 100000000000000) × (amount within 100000000000000) ⌝ }
+    requires { ⌜ (k < length (now block)) × (number (now block) k within mostRubles) × (amount within mostRubles) ⌝ }
     ensures { λ r. ⌜ r ≡ between low (number (now (block .entry)) k +ℤ amount) high ⌝ }
 {
     whole::lies_between(low, block[k] + amount, high)
@@ -45,16 +42,28 @@ fn fits_after(block: &[i64], k: usize, amount: i64, low: i64, high: i64) -> bool
 
 // Add an amount to number k.
 fn add(block: &mut [i64], k: usize, amount: i64)
-    requires { ⌜ (k < length (now block)) × (number (now block) k within 100000000000000) × (amount within 100000000000000) ⌝ }
+    requires { ⌜ (k < length (now block)) × (number (now block) k within mostRubles) × (amount within mostRubles) ⌝ }
     ensures { λ _. ⌜ now (block .exit) ≡ added (now (block .entry)) k amount ⌝ }
 {
     block[k] = block[k] + amount;
 }
 
-// What a trade does to its date's ruble net.
+// Where the claim or the obligation stands that a trade adds to.
+fn trade_at(t: Trade) -> usize
+    requires { ⌜ TradeRanges t ⌝ }
+    ensures { λ r. ⌜ r ≡ tradeAt (t .asset) (t .date) (t .side) ⌝ }
+{
+    in_block::HOLDINGS
+        + in_block::HOLDING_LENGTH * t.asset
+        + in_block::CLAIMS
+        + units::DATE_COUNT * t.side
+        + t.date
+}
+
+// What a trade does to its date's ruble net: a buy takes the money from it, a sell adds it.
 fn money_of(t: Trade) -> i64
     requires { ⌜ TradeRanges t ⌝ }
-    ensures { λ r. ⌜ (r ≡ moneyOf t) × (r within 100000000000000) ⌝ }
+    ensures { λ r. ⌜ (r ≡ moneyOf t) × (r within mostRubles) ⌝ }
 {
     if t.side == 0 {
         return -t.money;
@@ -62,41 +71,74 @@ fn money_of(t: Trade) -> i64
     t.money
 }
 
-// Book a trade, or answer 9 where a number would leave its bounds.
-pub fn book_trade(block: &mut [i64], t: Trade) -> u8
-    requires { ⌜ (length (now block) ≡ 288) × (inBounds (now block) ≡ true) × TradeRanges t ⌝ }
-    ensures { λ r. ⌜ (r ≡ tradeCode (now (block .entry)) t) × (now (block .exit) ≡ leaves r (traded (now (block .entry)) t) (now (block .entry))) ⌝ }
+// The trade that takes a trade back.
+pub fn reversed(t: Trade) -> Trade
+    requires { ⌜ TradeRanges t ⌝ }
+    ensures { λ r. ⌜ (r ≡ reversed t) × TradeRanges r ⌝ }
 {
-    let at = CLAIMS_AT + HOLDING * t.asset + DATES * t.side + t.date;
-    let net = RUBLE_NETS_AT + t.date;
+    Trade {
+        asset: t.asset,
+        date: t.date,
+        side: t.side,
+        quantity: -t.quantity,
+        money: -t.money,
+    }
+}
+
+// Whether every number stays in its bounds with a trade booked: only its own two could leave them.
+pub fn trade_fits(block: &[i64], t: Trade) -> bool
+    requires { ⌜ Tradable (now block) t ⌝ }
+    ensures { λ r. ⌜ r ≡ inBounds (traded (now (block .entry)) t) ⌝ }
+{
+    if !fits_after(block, trade_at(t), t.quantity, 0, in_block::MOST_UNITS) {
+        return false;
+    }
     let money = money_of(t);
-    if !fits_after(&block[..], at, t.quantity, 0, UNITS) {
-        return 9;
-    }
-    if !fits_after(&block[..], net, money, -RUBLES, RUBLES) {
-        return 9;
-    }
+    fits_after(
+        block,
+        in_block::RUBLE_NETS + t.date,
+        money,
+        -in_block::MOST_RUBLES,
+        in_block::MOST_RUBLES,
+    )
+}
+
+// Book a trade.
+pub(crate) fn book_trade(block: &mut [i64], t: Trade)
+    requires { ⌜ Tradable (now block) t ⌝ }
+    ensures { λ _. ⌜ now (block .exit) ≡ traded (now (block .entry)) t ⌝ }
+{
+    let at = trade_at(t);
+    let money = money_of(t);
     add(block, at, t.quantity);
-    add(block, net, money);
-    0
+    add(block, in_block::RUBLE_NETS + t.date, money);
 }
 
-// Take a booked trade back.
-pub fn take_back_trade(block: &mut [i64], t: Trade)
-    requires { ⌜ (length (now block) ≡ 288) × (inBounds (now block) ≡ true) × TradeRanges t ⌝ }
-    ensures { λ _. ⌜ now (block .exit) ≡ untraded (now (block .entry)) t ⌝ }
+// Where the collateral stands that a move names: an asset's, or that of rubles.
+fn move_at(asset: usize) -> usize
+    requires { ⌜ MoveAsset asset ⌝ }
+    ensures { λ r. ⌜ (r ≡ moveAt asset) × (r < blockLength) ⌝ }
 {
-    let at = CLAIMS_AT + HOLDING * t.asset + DATES * t.side + t.date;
-    let net = RUBLE_NETS_AT + t.date;
-    let money = money_of(t);
-    add(block, at, -t.quantity);
-    add(block, net, -money);
+    if asset == in_block::RUBLES {
+        return in_block::RUBLE_COLLATERAL;
+    }
+    in_block::HOLDINGS + in_block::HOLDING_LENGTH * asset
 }
 
-// The least that a move may leave: 0 for a withdrawal, else −most.
+// The most that may stand there.
+fn most_of(asset: usize) -> i64
+    ensures { λ r. ⌜ (r ≡ mostOf asset) × (r upto mostRubles) ⌝ }
+{
+    if asset == in_block::RUBLES {
+        return in_block::MOST_RUBLES;
+    }
+    in_block::MOST_UNITS
+}
+
+// The least that a move may leave there: 0 for a withdrawal, else −most.
 fn least_after(amount: i64, most: i64) -> i64
-    requires { ⌜ most upto 100000000000000 ⌝ }
-    ensures { λ r. ⌜ (r ≡ leastAfter amount most) × (r within 100000000000000) ⌝ }
+    requires { ⌜ most upto mostRubles ⌝ }
+    ensures { λ r. ⌜ (r ≡ leastAfter amount most) × (r within mostRubles) ⌝ }
 {
     if amount < 0 {
         return 0;
@@ -104,38 +146,25 @@ fn least_after(amount: i64, most: i64) -> i64
     -most
 }
 
-// Add to the collateral at place k, of size at most `most`, or answer 9.
-fn move_at(block: &mut [i64], k: usize, amount: i64, most: i64) -> u8
-    requires { ⌜ (k < length (now block)) × (number (now block) k within 100000000000000) × (amount within 100000000000000) × (most upto 100000000000000) ⌝ }
-    ensures { λ r. ⌜ (r ≡ moveCodeAt (now (block .entry)) k amount most) × (now (block .exit) ≡ leaves r (added (now (block .entry)) k amount) (now (block .entry))) ⌝ }
+// Whether a move may be booked: its number stays in its bounds, and a withdrawal leaves nothing below 0.
+pub fn move_fits(block: &[i64], asset: usize, amount: i64) -> bool
+    requires { ⌜ Movable (now block) asset amount ⌝ }
+    ensures { λ r. ⌜ r ≡ not (moveOut (now (block .entry)) asset amount) ⌝ }
 {
-    let least = least_after(amount, most);
-    if !fits_after(&block[..], k, amount, least, most) {
-        return 9;
-    }
-    add(block, k, amount);
-    0
+    let most = most_of(asset);
+    fits_after(
+        block,
+        move_at(asset),
+        amount,
+        least_after(amount, most),
+        most,
+    )
 }
 
-// Move collateral of an asset, or of rubles, or answer 9.
-pub fn move_collateral(block: &mut [i64], asset: usize, amount: i64) -> u8
-    requires { ⌜ (length (now block) ≡ 288) × (inBounds (now block) ≡ true) × MoveAsset asset × (amount within 100000000000000) ⌝ }
-    ensures { λ r. ⌜ (r ≡ moveCode (now (block .entry)) asset amount) × (now (block .exit) ≡ leaves r (moved (now (block .entry)) asset amount) (now (block .entry))) ⌝ }
+// Move collateral of an asset, or of rubles.
+pub(crate) fn move_collateral(block: &mut [i64], asset: usize, amount: i64)
+    requires { ⌜ Movable (now block) asset amount ⌝ }
+    ensures { λ _. ⌜ now (block .exit) ≡ moved (now (block .entry)) asset amount ⌝ }
 {
-    if asset == MOVE_RUBLES {
-        return move_at(block, RUBLE_COLLATERAL, amount, RUBLES);
-    }
-    move_at(block, HOLDINGS_AT + HOLDING * asset, amount, UNITS)
-}
-
-// Take a move back.
-pub fn take_back_move(block: &mut [i64], asset: usize, amount: i64)
-    requires { ⌜ (length (now block) ≡ 288) × (inBounds (now block) ≡ true) × MoveAsset asset × (amount within 100000000000000) ⌝ }
-    ensures { λ _. ⌜ now (block .exit) ≡ moved (now (block .entry)) asset (negℤ amount) ⌝ }
-{
-    if asset == MOVE_RUBLES {
-        add(block, RUBLE_COLLATERAL, -amount);
-        return;
-    }
-    add(block, HOLDINGS_AT + HOLDING * asset, -amount);
+    add(block, move_at(asset), amount);
 }

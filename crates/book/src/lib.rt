@@ -1,25 +1,29 @@
+mod accounts;
 mod changes;
+pub mod in_block;
 mod rolling;
 mod rules;
+mod terms;
 
-pub use changes::book_trade;
-pub use changes::move_collateral;
-pub use changes::open;
-pub use changes::take_back_move;
-pub use changes::take_back_trade;
-pub use rolling::roll;
+pub use accounts::block_of;
+pub use accounts::move_in;
+pub use accounts::open_in;
+pub use accounts::roll_in;
+pub use accounts::trade_in;
+pub use changes::Trade;
+pub use changes::move_fits;
+pub use changes::reversed;
+pub use changes::trade_fits;
+pub use rolling::roll_fits;
 pub use rules::block_right;
 pub use rules::holds_listed;
-pub use rules::is_empty;
+pub use terms::Terms;
+pub use terms::amounts_right;
+pub use terms::asset_right;
+pub use terms::choice_right;
+pub use terms::is_rubles;
+pub use terms::move_amount_right;
+pub use terms::trade_of;
 
-// One account's block of 288 numbers: the block rules, and what open, a move, a trade and a roll leave there. Every function works on the
-// block that its caller lends; one that changes it says what every number of it is afterwards.
-
-// A trade: a buy on side 0, a sell on side 1.
-pub struct Trade {
-    pub asset: usize,
-    pub date: usize,
-    pub side: usize,
-    pub quantity: i64,
-    pub money: i64,
-}
+// The book of sixteen accounts: where an account's block stands, the block rules, the numbers that an order or a move may name, and what open, a move,
+// a trade and a roll leave in a block. A function that changes the book says what every number of it is afterwards.

@@ -1,19 +1,25 @@
 ghost use mathlib.Core.Path.{_≡_};
-ghost use mathlib.Core.Bool.{true};
 ghost use lib.ListN.{length};
-ghost use Rattle.whole.specs.Refusals.{leaves};
 ghost use Rattle.book.specs.Rules.{rublesRight, collateralRight, inBounds};
-ghost use Rattle.book.specs.Roll.{dayLater, rolledRubles, rolledHolding, rolled, rollCode};
-ghost use Rattle.book.specs.Ranges.{RubleRanges, HoldingRanges};
+ghost use Rattle.book.specs.Roll.{dayLater, rolledRubles, rolledHolding, rolled};
+ghost use Rattle.book.specs.Ranges.{RubleRanges, HoldingRanges, Bounded};
 ghost use Rattle.whole.specs.Parts.{number};
-use crate::rules::ASSETS;
-use crate::rules::HOLDING;
-use crate::rules::HOLDINGS_AT;
-use crate::rules::RUBLES;
-use crate::rules::UNITS;
+use crate::in_block;
+use crate::in_block::CLAIMS;
+use crate::in_block::COLLATERAL;
+use crate::in_block::HOLDING_LENGTH;
+use crate::in_block::HOLDINGS;
+use crate::in_block::OBLIGATIONS;
+use rates::units::ASSET_COUNT;
 
 // The roll of a block (document 01, "Roll"), in place: first it is seen that every sum stays in its bounds, then each stretch is rolled.
 
+// Of the nine ruble numbers the nets stand behind the collateral.
+const NETS: usize = 1;
+
+const NETS_END: usize = 9;
+
+// The last of eight dates.
 const LAST: usize = 7;
 
 // Eight numbers by date, a day later.
@@ -34,8 +40,8 @@ fn roll_rubles(rubles: &mut [i64])
     requires { ⌜ RubleRanges (now rubles) ⌝ }
     ensures { λ _. ⌜ now (rubles .exit) ≡ rolledRubles (now (rubles .entry)) ⌝ }
 {
-    rubles[0] = rubles[0] + rubles[1];
-    day_later(&mut rubles[1..9]);
+    rubles[0] = rubles[0] + rubles[NETS];
+    day_later(&mut rubles[NETS..NETS_END]);
 }
 
 // An asset's collateral, claims and obligations.
@@ -43,21 +49,21 @@ fn roll_holding(holding: &mut [i64])
     requires { ⌜ HoldingRanges (now holding) ⌝ }
     ensures { λ _. ⌜ now (holding .exit) ≡ rolledHolding (now (holding .entry)) ⌝ }
 {
-    holding[0] = holding[0] + holding[1] - holding[9];
-    day_later(&mut holding[1..9]);
-    day_later(&mut holding[9..17]);
+    holding[COLLATERAL] = holding[COLLATERAL] + holding[CLAIMS] - holding[OBLIGATIONS];
+    day_later(&mut holding[CLAIMS..OBLIGATIONS]);
+    day_later(&mut holding[OBLIGATIONS..HOLDING_LENGTH]);
 }
 
-// Rubles and holdings.
-fn roll_stretches(block: &mut [i64])
-    requires { ⌜ (length (now block) ≡ 288) × (inBounds (now block) ≡ true) ⌝ }
+// Roll a block: rubles and holdings.
+pub(crate) fn roll(block: &mut [i64])
+    requires { ⌜ Bounded (now block) ⌝ }
     ensures { λ _. ⌜ now (block .exit) ≡ rolled (now (block .entry)) ⌝ }
 {
-    roll_rubles(&mut block[1..10]);
+    roll_rubles(&mut block[in_block::RUBLE_COLLATERAL..in_block::RUBLES_END]);
     let mut a = 0;
-    while a < ASSETS {
-        let at = HOLDINGS_AT + HOLDING * a;
-        roll_holding(&mut block[at..at + HOLDING]);
+    while a < ASSET_COUNT {
+        let at = HOLDINGS + HOLDING_LENGTH * a;
+        roll_holding(&mut block[at..at + HOLDING_LENGTH]);
         a += 1;
     }
 }
@@ -67,7 +73,11 @@ fn rubles_fit(rubles: &[i64]) -> bool
     requires { ⌜ RubleRanges (now rubles) ⌝ }
     ensures { λ r. ⌜ r ≡ rublesRight (number (rolledRubles (now (rubles .entry))) 0) ⌝ }
 {
-    whole::lies_between(-RUBLES, rubles[0] + rubles[1], RUBLES)
+    whole::lies_between(
+        -in_block::MOST_RUBLES,
+        rubles[0] + rubles[NETS],
+        in_block::MOST_RUBLES,
+    )
 }
 
 // Whether an asset's collateral stays in its bounds.
@@ -75,36 +85,28 @@ fn holding_fits(holding: &[i64]) -> bool
     requires { ⌜ HoldingRanges (now holding) ⌝ }
     ensures { λ r. ⌜ r ≡ collateralRight (number (rolledHolding (now (holding .entry))) 0) ⌝ }
 {
-    whole::lies_between(-UNITS, holding[0] + holding[1] - holding[9], UNITS)
+    whole::lies_between(
+        -in_block::MOST_UNITS,
+        holding[COLLATERAL] + holding[CLAIMS] - holding[OBLIGATIONS],
+        in_block::MOST_UNITS,
+    )
 }
 
 // Whether every number stays in its bounds: only the seventeen sums could leave them.
-fn roll_fits(block: &[i64]) -> bool
-    requires { ⌜ (length (now block) ≡ 288) × (inBounds (now block) ≡ true) ⌝ }
+pub fn roll_fits(block: &[i64]) -> bool
+    requires { ⌜ Bounded (now block) ⌝ }
     ensures { λ r. ⌜ r ≡ inBounds (rolled (now (block .entry))) ⌝ }
 {
-    if !rubles_fit(&block[1..10]) {
+    if !rubles_fit(&block[in_block::RUBLE_COLLATERAL..in_block::RUBLES_END]) {
         return false;
     }
     let mut a = 0;
-    while a < ASSETS {
-        let at = HOLDINGS_AT + HOLDING * a;
-        if !holding_fits(&block[at..at + HOLDING]) {
+    while a < ASSET_COUNT {
+        let at = HOLDINGS + HOLDING_LENGTH * a;
+        if !holding_fits(&block[at..at + HOLDING_LENGTH]) {
             return false;
         }
         a += 1;
     }
     true
-}
-
-// Roll a block, or answer 9 where a number would leave its bounds.
-pub fn roll(block: &mut [i64]) -> u8
-    requires { ⌜ (length (now block) ≡ 288) × (inBounds (now block) ≡ true) ⌝ }
-    ensures { λ r. ⌜ (r ≡ rollCode (now (block .entry))) × (now (block .exit) ≡ leaves r (rolled (now (block .entry))) (now (block .entry))) ⌝ }
-{
-    if !roll_fits(&block[..]) {
-        return 9;
-    }
-    roll_stretches(block);
-    0
 }

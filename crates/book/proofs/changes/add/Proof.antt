@@ -3,13 +3,14 @@ use mathlib.Core.Path.{ap}
 use lib.IntN.{ℤ}
 use lib.ListN.{set}
 use borrow.Author.Needs.{needs}
+use Rattle.whole.proofs.Rules.{ints}
 use Rattle.book.specs.Changes.{added}
-use Rattle.book.proofs.Amounts.{sum-fits, summed}
+use Rattle.book.proofs.Amounts.{summed}
 use Rattle.book.proofs.changes.add.Statement.{statement}
 use Rattle.book.proofs.changes.add.Tie as tie
 
 add-block : tie.Need-add-block
-add-block c = let s = c .before in sum-fits (s .pre .1) (s .pre .2)
+add-block c = let p = c .before .pre in omega ints
 
 returns : tie.Need-returns
 unfolding added

@@ -1,43 +1,29 @@
--- `changes::move_at` meets its contract: the number is added to where it stays from the least to the most. Assumes nothing.
-use mathlib.Core.Path.{_≡_, ap, _∙_}
-use lib.IntN.{_+ℤ_}
-use mir.Facts.{toZ-ofZ}
+-- `changes::move_at` meets its contract: an asset that is not 255 is one of the sixteen. Assumes nothing.
+use mathlib.Core.Logic.{⊎-elim}
+use Prim.Native.Nat.{_<_}
+use native.Mathlib.Omega.{arith}
 use borrow.Author.Needs.{needs}
-use Rattle.whole.specs.Bounds.{between}
-use Rattle.whole.specs.Parts.{number}
-use Rattle.whole.proofs.Tests.{left, taken}
-use Rattle.book.specs.Changes.{added, leastAfter, moveCodeAt}
-use Rattle.book.proofs.Codes.{turned-away, let-through}
+use borrow.Author.Tests.{eq-eqb, ne-eqb}
+use Rattle.book.specs.Block.{moveAt}
 use Rattle.book.proofs.changes.move_at.Statement.{statement}
 use Rattle.book.proofs.changes.move_at.Tie as tie
 
--- what the test says, in the definition's words
-tested : (c : tie.After-fits-after) → let s = c .before .before .before in
-    c .fits-after .result ≡ between (leastAfter (s .args .amount) (s .args .most)) (number (s .args .block .now) (s .args .k) +ℤ s .args .amount) (s .args .most)
-tested c = let s = c .before .before .before in
-    let l = c .before .before .least-after in
-    c .fits-after .ensures ∙ simp (toZ-ofZ (l .ensures .1 .fits) ∙ l .ensures .0, toZ-ofZ (s .fits .amount), toZ-ofZ (s .fits .most))
+an-asset : (c : tie.Else1) → c .before .args .asset < 16
+an-asset c = ⊎-elim (λ l. l) (λ e. absurd (c .if1 .left e)) (c .before .pre)
 
 returns : tie.Need-returns
-unfolding moveCodeAt
-returns c = let s = c .before .before .before .before in
-    turned-away (added (s .args .block .now) (s .args .k) (s .args .amount)) (s .args .block .now) (taken (tested (c .before)) (c .if1 .taken))
+unfolding moveAt
+returns c = (simp (eq-eqb _ 255 (c .if1 .taken)), omega arith)
+
+mul-result : tie.Need-mul-result
+mul-result c = let l = an-asset c in search needs
+
+add-result : tie.Need-add-result
+add-result c = let l = an-asset c in search needs
 
 returns-2 : tie.Need-returns-2
-unfolding moveCodeAt
-returns-2 c = let s = c .before .before .before .before .before .before .before in
-    let t = c .before .before .before in
-    let-through (added (s .args .block .now) (s .args .k) (s .args .amount)) (s .args .block .now) (left (tested (t .before)) (t .if1 .left))
-    (c .before .add .ensures ∙ ap (added (s .args .block .now) (s .args .k)) (toZ-ofZ (s .fits .amount)))
+unfolding moveAt
+returns-2 c = let l = an-asset c in (simp (ne-eqb _ 255 (c .if1 .left)), omega arith)
 
 pub move-at-spec : {M : Type 1} → statement M
-move-at-spec =
-    tie.close
-    (tie.spec
-    (λ c κs. search needs)
-    (λ c κs. search needs)
-    (λ c. search needs)
-    returns
-    (λ c κs. search needs)
-    (λ c. search needs)
-    returns-2)
+move-at-spec = tie.close (tie.spec returns mul-result add-result returns-2)

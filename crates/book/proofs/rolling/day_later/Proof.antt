@@ -9,7 +9,7 @@ use lib.ListN.{length, set, length-set}
 use mir.Facts.{toZ-ofZ}
 use borrow.Author.Needs.{needs, sfits-of}
 use Rattle.whole.specs.Parts.{number}
-use Rattle.book.proofs.DayLater.{stepped, stepped-ahead, stepped-on, stepped-end}
+use Rattle.book.proofs.rolling.DayLater.{stepped, stepped-ahead, stepped-on, stepped-end}
 use Rattle.book.proofs.rolling.day_later.Statement.{statement}
 use Rattle.book.proofs.rolling.day_later.Tie as tie
 

@@ -3,9 +3,10 @@ use mathlib.Core.Path.{_∙_}
 use native.Mathlib.Omega.{arith}
 use lib.ListN.{length-set}
 use borrow.Author.Needs.{needs}
-use Rattle.book.proofs.Amounts.{sum-fits, difference-fits, differed}
+use Rattle.whole.proofs.Rules.{ints}
+use Rattle.book.proofs.Amounts.{sum-fits, summed, differed}
 use Rattle.book.proofs.InBounds.{collateral-size, claim-size, obligation-size}
-use Rattle.book.proofs.DayLater.{holding-rolled}
+use Rattle.book.proofs.rolling.DayLater.{holding-rolled}
 use Rattle.book.proofs.rolling.roll_holding.Statement.{statement}
 use Rattle.book.proofs.rolling.roll_holding.Tie as tie
 
@@ -13,7 +14,8 @@ add-holding : tie.Need-add-holding
 add-holding c = let h = c .before .before .pre in sum-fits (collateral-size h) (claim-size h)
 
 sub-holding : tie.Need-sub-holding
-sub-holding c = let h = c .before .before .before .pre in difference-fits (collateral-size h) (claim-size h) (obligation-size h)
+sub-holding c = let h = c .before .before .before .pre in let a = collateral-size h in let b = claim-size h in let d = obligation-size h in
+    omega (ints, summed a b)
 
 part-day-later-end : tie.Need-part-day-later-end
 part-day-later-end c = let h = c .before .before .before .pre in simp length-set (omega arith)

@@ -4,7 +4,7 @@ use native.Mathlib.Omega.{arith}
 use lib.ListN.{length-set}
 use borrow.Author.Needs.{needs}
 use Rattle.book.proofs.Amounts.{sum-fits, summed}
-use Rattle.book.proofs.DayLater.{rubles-rolled}
+use Rattle.book.proofs.rolling.DayLater.{rubles-rolled}
 use Rattle.book.proofs.rolling.roll_rubles.Statement.{statement}
 use Rattle.book.proofs.rolling.roll_rubles.Tie as tie
 

@@ -8,18 +8,18 @@ use Rattle.book.proofs.rules.block_right.Statement.{statement}
 use Rattle.book.proofs.rules.block_right.Tie as tie
 
 returns : tie.Need-returns
-returns c = c .is-empty .ensures ∙ sym (good-closed _ (passed (c .before .before .number-between .ensures) (c .before .if1 .taken)))
+returns c = c .all-zero .ensures ∙ sym (good-closed _ (passed (c .before .before .number-is .ensures) (c .before .if1 .taken)))
 
 returns-2 : tie.Need-returns-2
 returns-2 c =
-    sym (good-open _ (failed (c .before .before .before .number-between .ensures) (c .before .before .if1 .left))
+    sym (good-open _ (failed (c .before .before .before .number-is .ensures) (c .before .before .if1 .left))
     ∙ first-out _ _ (taken (c .before .head-right .ensures) (c .if2 .taken)))
 
 returns-3 : tie.Need-returns-3
 returns-3 c =
     let h = c .before .before in
     and-then _ _ (left (h .head-right .ensures) (c .before .if2 .left)) (c .in-bounds .ensures)
-    ∙ sym (good-open _ (failed (h .before .before .number-between .ensures) (h .before .if1 .left)))
+    ∙ sym (good-open _ (failed (h .before .before .number-is .ensures) (h .before .if1 .left)))
 
 pub block-right-spec : {M : Type 1} → statement M
 block-right-spec =

@@ -6,15 +6,15 @@ use Prim.Native.Nat.{ℕ, _+_, _<_}
 use lib.IntN.{ℤ, pos}
 use lib.ListN.{length, drop, take}
 use lib.Seq.{drop-drop}
-use Rattle.whole.specs.Marks.{allTrue}
+use Rattle.whole.specs.Marks.{allTrue, every}
 use Rattle.whole.specs.Parts.{part, number}
 use Rattle.whole.proofs.Tests.{both, first-out, second-out}
+use Rattle.whole.proofs.Every.{every-out, every-next}
 use Rattle.book.specs.Block.{rubleNumbers, holdingOf}
-use Rattle.book.specs.Rules.{rublesRight, collateralRight, quantityRight, holdingRight, holdingsRight, inBounds}
+use Rattle.book.specs.Rules.{rublesRight, collateralRight, quantityRight, holdingRight, inBounds, holdingRightAt}
 use Rattle.book.specs.Roll.{dayLater, rolledRubles, rolledHolding, rolled}
 use Rattle.whole.proofs.Lists.{all, all-append, all-take, all-drop, and-true}
 use Rattle.book.proofs.Blocks.{holding-length}
-use Rattle.book.proofs.Holdings.{holdings-out, holdings-next}
 use Rattle.book.proofs.InBounds.{zero-rubles, zero-quantity, rubles-right, quantities-right, holding-right-at}
 use Rattle.book.proofs.Rolled.{rolled-rubles, rolled-holding}
 
@@ -65,11 +65,11 @@ module _ (block : List ℤ) (long : length block ≡ 288) (right : inBounds bloc
 
   pub holding-out : (a : ℕ) → a < 16 → holdingFits block a ≡ false → inBounds (rolled block) ≡ false
   unfolding inBounds
-  holding-out a l e = second-out (all rublesRight (rubleNumbers (rolled block))) _ (holdings-out (rolled block) 16 a l (holding-then a l ∙ e))
+  holding-out a l e = second-out (all rublesRight (rubleNumbers (rolled block))) _ (every-out (holdingRightAt (rolled block)) 16 a l (holding-then a l ∙ e))
 
-  pub holding-next : (a : ℕ) → a < 16 → holdingsRight (rolled block) a ≡ true → holdingFits block a ≡ true → holdingsRight (rolled block) (a + 1) ≡ true
-  holding-next a l e f = holdings-next (rolled block) a e (holding-then a l ∙ f)
+  pub holding-next : (a : ℕ) → a < 16 → every a (holdingRightAt (rolled block)) ≡ true → holdingFits block a ≡ true → every (a + 1) (holdingRightAt (rolled block)) ≡ true
+  holding-next a l e f = every-next (holdingRightAt (rolled block)) a e (holding-then a l ∙ f)
 
-  pub all-fit : rublesFit block ≡ true → holdingsRight (rolled block) 16 ≡ true → inBounds (rolled block) ≡ true
+  pub all-fit : rublesFit block ≡ true → every 16 (holdingRightAt (rolled block)) ≡ true → inBounds (rolled block) ≡ true
   unfolding inBounds
   all-fit e f = both _ _ (rubles-then ∙ e) f
