@@ -18,6 +18,7 @@ use Rattle.whole.specs.Parts.{number}
 use Rattle.whole.proofs.Expressions.{var, _⊕_, _⊖_, le!, eq!, eq?}
 use Rattle.whole.proofs.Sums.{sum-one}
 use Rattle.whole.proofs.Rules.{ints}
+use Rattle.rates.specs.Lent.{Tables}
 use Rattle.rates.specs.Row.{coveredSales}
 use Rattle.rates.specs.InForce.{inForce, coverTest}
 use Rattle.rates.specs.Ranges.{TableRanges}
@@ -25,18 +26,22 @@ use Rattle.book.specs.Block.{accountKind, rubles, rubleNumbers, holdingOf, coll
 use Rattle.book.specs.Changes.{moved}
 use Rattle.book.proofs.Blocks.{rubles-length, holding-length}
 use Rattle.book.proofs.Moved.{moved-head, moved-holding-other, moved-holding, moved-rubles-other, moved-rubles, rubles-holding}
-use Rattle.figures.specs.Asset.{assetOf}
-use Rattle.figures.specs.Limit.{totalsOf, discount, singleLimit, figuresOf, rublesOf, assetIn, blockFigures}
-use Rattle.figures.specs.declared.Totals.{Totals}
-use Rattle.figures.proofs.Discount.{percent-ranges}
-use Rattle.figures.proofs.Better.{Better, limit-of-better}
-use Rattle.figures.proofs.AssetDeposit.{deposited-better}
+use Rattle.assets.specs.Asset.{assetOf}
+use Rattle.assets.specs.Part.{partOf}
+use Rattle.assets.proofs.Raised.{Better}
+use Rattle.assets.proofs.AssetDeposit.{deposited-better}
+use Rattle.figures.specs.Limit.{totalsOf, discount, singleLimit, figuresOf, rublesOf, partIn, blockFigures}
+use Rattle.figures.specs.declared.sums.Totals.{Totals}
+use Rattle.figures.proofs.limit.Discount.{percent-ranges}
+use Rattle.figures.proofs.Better.{limit-of-better}
 
 -- an asset of a block, from the block's kind and the asset's holding
-asset-same : (block other clearing own : List ℤ) (a : ℕ) → accountKind other ≡ accountKind block → holdingOf other a ≡ holdingOf block a
-    → assetIn other clearing own a ≡ assetIn block clearing own a
-unfolding assetIn
-asset-same block other clearing own a e f = ap₂ (λ (k : ℤ) (h : List ℤ). assetOf (natAbs k) (inForce clearing own a) h) e f
+part-same : (block other : List ℤ) (tables : Tables) (a : ℕ) → accountKind other ≡ accountKind block → holdingOf other a ≡ holdingOf block a
+    → partIn other tables a ≡ partIn block tables a
+unfolding partIn
+part-same block other tables a e f =
+    let row = inForce (tables .clearing) (tables .own) a in
+    ap₂ (λ (k : ℤ) (h : List ℤ). partOf row (assetOf (natAbs k) row h)) e f
 
 -- rubles alone
 rubles-add : (totals : Totals) (groups : List ℤ) (x amount : ℤ) → figuresOf totals groups (x +ℤ amount) .limit ≡ figuresOf totals groups x .limit +ℤ amount
@@ -48,33 +53,33 @@ rubles-add totals groups x amount =
     let d = var (discount groups totals) in
     eq! (v ⊕ (var x ⊕ var amount) ⊖ m ⊖ i ⊕ d) (v ⊕ var x ⊖ m ⊖ i ⊕ d ⊕ var amount) (omega arith)
 
-module _ (block clearing own groups : List ℤ) (long : length block ≡ 288) (amount : ℤ) where
-  module _ (t : TableRanges clearing own groups) (from-zero : pos 0 ≤ℤ amount) (a : ℕ) (l : a < 16)
-      (cover : coverTest (inForce clearing own a) ≡ true) (whole : equal (coveredSales (inForce clearing own a)) (pos 2) ≡ false) where
+module _ (block : List ℤ) (tables : Tables) (sized : length block ≡ 288) (amount : ℤ) where
+  module _ (t : TableRanges tables) (from-zero : pos 0 ≤ℤ amount) (a : ℕ) (l : a < 16)
+      (cover : coverTest (inForce (tables .clearing) (tables .own) a) ≡ true)
+      (whole : equal (coveredSales (inForce (tables .clearing) (tables .own) a)) (pos 2) ≡ false) where
     abbrev after : List ℤ
     after = moved block a amount
 
     kind-same : accountKind after ≡ accountKind block
     kind-same = moved-head block a amount (inl l) 0 (inl refl)
 
-    own-better : Better (inForce clearing own a) (assetIn block clearing own a) (assetIn after clearing own a)
-    unfolding assetIn
+    own-better : Better (partIn block tables a) (partIn after tables a)
+    unfolding partIn
     own-better =
-        let row = inForce clearing own a in
         let h = holdingOf block a in
         let x = collateral h +ℤ amount in
-        let inside : 0 < length h = omega (arith, holding-length block long a l) in
+        let inside : 0 < length h = omega (arith, holding-length block sized a l) in
         rw (kind-same, moved-holding block a amount l)
-        (deposited-better (natAbs (accountKind block)) row h (set h 0 x) (t .row a l) (λ k d. getD-set-other h 0 k x (pos 0) d)
+        (deposited-better (natAbs (accountKind block)) _ h (set h 0 x) (t .row a l) (λ k d. getD-set-other h 0 k x (pos 0) d)
         (rw (getD-set-same h 0 x (pos 0) inside) (le! (var (collateral h)) (var (collateral h) ⊕ var amount) (omega (ints, from-zero)))) whole cover)
 
-    pub asset-not-lower : blockFigures block clearing own groups .limit ≤ℤ blockFigures after clearing own groups .limit
+    pub asset-not-lower : blockFigures block tables .limit ≤ℤ blockFigures after tables .limit
     unfolding blockFigures rublesOf
     asset-not-lower =
         rw (moved-rubles-other block a amount l)
-        (limit-of-better (inForce clearing own) (assetIn block clearing own) (assetIn after clearing own) a l
-        (λ j q apart. asset-same block after clearing own j kind-same (moved-holding-other block a amount (inl l) j apart)) own-better
-        groups (percent-ranges t) (rublesOf block))
+        (limit-of-better (partIn block tables) (partIn after tables) a l
+        (λ j q apart. part-same block after tables j kind-same (moved-holding-other block a amount (inl l) j apart)) own-better
+        (tables .groups) (percent-ranges t) (rublesOf block))
 
   abbrev richer : List ℤ
   richer = moved block rubles amount
@@ -84,12 +89,12 @@ module _ (block clearing own groups : List ℤ) (long : length block ≡ 288) (a
   rubles-rise =
       let n = rubleNumbers block in
       let x = number n 0 +ℤ amount in
-      let inside : 0 < length n = omega (arith, rubles-length block long) in
+      let inside : 0 < length n = omega (arith, rubles-length block sized) in
       let S = var (Σ< 9 (number n)) in
       let S′ = var (Σ< 9 (number (set n 0 x))) in
       let f = var (number n 0) in
       let f′ = var (number (set n 0 x) 0) in
-      rw (moved-rubles block rubles amount refl)
+      rw (moved-rubles block amount)
       (eq! S′ (S ⊕ var amount)
       (omega (
         arith,
@@ -97,11 +102,11 @@ module _ (block clearing own groups : List ℤ) (long : length block ≡ 288) (a
         eq? f′ (f ⊕ var amount) (getD-set-same n 0 x (pos 0) inside),
       )))
 
-  same-asset : (a : ℕ) → assetIn richer clearing own a ≡ assetIn block clearing own a
-  same-asset a = asset-same block richer clearing own a (moved-head block rubles amount (inr refl) 0 (inl refl)) (rubles-holding block amount a)
+  same-part : (a : ℕ) → partIn richer tables a ≡ partIn block tables a
+  same-part a = part-same block richer tables a (moved-head block rubles amount (inr refl) 0 (inl refl)) (rubles-holding block amount a)
 
-  pub rubles-higher : blockFigures richer clearing own groups .limit ≡ blockFigures block clearing own groups .limit +ℤ amount
+  pub rubles-higher : blockFigures richer tables .limit ≡ blockFigures block tables .limit +ℤ amount
   unfolding blockFigures
   rubles-higher =
-      (λ i. figuresOf (totalsOf (inForce clearing own) (λ a. same-asset a i) 16) groups (rubles-rise i) .limit)
-      ∙ rubles-add (totalsOf (inForce clearing own) (assetIn block clearing own) 16) groups (rublesOf block) amount
+      (λ i. figuresOf (totalsOf (λ a. same-part a i) 16) (tables .groups) (rubles-rise i) .limit)
+      ∙ rubles-add (totalsOf (partIn block tables) 16) (tables .groups) (rublesOf block) amount

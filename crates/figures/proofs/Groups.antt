@@ -1,57 +1,47 @@
--- Laws of the groups of the discount (specs/Limit): a row stands in at most one of them, and what each side of a group comes to.
+-- Laws of the groups of the discount (specs/Limit): an asset's part stands in at most one of them, and what one side of a group comes to.
 -- Assumes nothing.
 use mathlib.Core.Path.{_≡_, refl}
 use mathlib.Core.Bool.{Bool, true, false, cond}
-use mathlib.Core.List.{List}
 use Prim.Native.Nat.{ℕ, zero, suc, _+_, _<_}
 use native.Mathlib.Omega.{arith}
 use borrow.Author.Tests.{eqb-true, ne-eqb}
 use lib.Dec.{eqb}
 use lib.IntN.{ℤ, pos, _+ℤ_}
-use lib.Signed.{_≤ℤ_, ≤ℤ-refl}
+use lib.Signed.{_≤ℤ_}
 use Rattle.whole.specs.Sums.{Σ<}
 use Rattle.whole.specs.Parts.{number}
 use Rattle.whole.proofs.Expressions.{var, lit, _⊕_, le! }
 use Rattle.whole.proofs.Tabulated.{tabulated-at}
 use Rattle.whole.proofs.Rules.{ints}
-use Rattle.figures.specs.Limit.{longRisk, shortRisk, groupOf, inGroup, totalsOf}
-use Rattle.figures.specs.declared.Asset.{Asset}
+use Rattle.assets.specs.declared.parts.Part.{Part}
+use Rattle.assets.proofs.Sizes.{choice-from-zero}
+use Rattle.figures.specs.Limit.{inGroup, byGroup}
 
--- x or nothing
-pub choice-from-zero : (t : Bool) {x : ℤ} → pos 0 ≤ℤ x → pos 0 ≤ℤ cond t x (pos 0)
-choice-from-zero true h = h
-choice-from-zero false h = ≤ℤ-refl _
+pub in-group-from-zero : (g : ℕ) (part : Part) {x : ℤ} → pos 0 ≤ℤ x → pos 0 ≤ℤ inGroup g part x
+unfolding inGroup
+in-group-from-zero g part h = choice-from-zero (eqb (part .group) g) h
 
-pub choice-below : (t : Bool) {x : ℤ} → pos 0 ≤ℤ x → cond t x (pos 0) ≤ℤ x
-choice-below true h = ≤ℤ-refl _
-choice-below false h = h
+-- a part stands in at most one of the groups 1 to n
+module _ (part : Part) (x : ℤ) (z : pos 0 ≤ℤ x) where
+  abbrev in-next : ℕ → ℤ
+  in-next g = inGroup (1 + g) part x
 
--- a row stands in at most one of the groups 1 to n
-module _ (row : List ℤ) (x : ℤ) (z : pos 0 ≤ℤ x) where
-  abbrev part-of : ℕ → ℤ
-  part-of g = inGroup (1 + g) row x
-
-  no-group : (n : ℕ) → n < groupOf row → Σ< n part-of ≡ pos 0
+  no-group : (n : ℕ) → n < part .group → Σ< n in-next ≡ pos 0
   unfolding inGroup Σ<
   no-group zero h = refl
   no-group (suc n) h =
-      rw (no-group n (omega arith), ne-eqb (groupOf row) (1 + n) (λ (e : groupOf row ≡ 1 + n). absurd (omega arith))) refl
+      rw (no-group n (omega arith), ne-eqb (part .group) (1 + n) (λ (e : part .group ≡ 1 + n). absurd (omega arith))) refl
 
-  pub one-group : (n : ℕ) → Σ< n part-of ≤ℤ x
+  pub one-group : (n : ℕ) → Σ< n in-next ≤ℤ x
   unfolding inGroup Σ<
   one-group zero = z
-  one-group (suc n) = by (eqb (groupOf row) (1 + n)) refl (one-group n)
+  one-group (suc n) = by (eqb (part .group) (1 + n)) refl (one-group n)
     where
-      by : (t : Bool) → eqb (groupOf row) (1 + n) ≡ t → Σ< n part-of ≤ℤ x → (Σ< n part-of +ℤ cond t x (pos 0)) ≤ℤ x
-      by true e h = let q = eqb-true (groupOf row) (1 + n) e in rw (no-group n (omega arith)) (le! (lit 0 ⊕ var x) (var x) (omega arith))
-      by false e h = le! (var (Σ< n part-of) ⊕ lit 0) (var x) (omega ints)
+      by : (t : Bool) → eqb (part .group) (1 + n) ≡ t → Σ< n in-next ≤ℤ x → (Σ< n in-next +ℤ cond t x (pos 0)) ≤ℤ x
+      by true e h = let q = eqb-true (part .group) (1 + n) e in rw (no-group n (omega arith)) (le! (lit 0 ⊕ var x) (var x) (omega arith))
+      by false e h = le! (var (Σ< n in-next) ⊕ lit 0) (var x) (omega ints)
 
--- the long and the short side of group g, over the first n assets
-module _ (rows : ℕ → List ℤ) (xs : ℕ → Asset) (n g : ℕ) (l : g < 9) where
-  pub long-at : number (totalsOf rows xs n .long) g ≡ Σ< n (λ a. inGroup g (rows a) (longRisk (rows a) (xs a .positions)))
-  unfolding totalsOf
-  long-at = tabulated-at _ 9 g (pos 0) l
-
-  pub short-at : number (totalsOf rows xs n .short) g ≡ Σ< n (λ a. inGroup g (rows a) (shortRisk (rows a) (xs a .positions)))
-  unfolding totalsOf
-  short-at = tabulated-at _ 9 g (pos 0) l
+-- one side of group g, over the first n assets
+pub side-at : (side : Part → ℤ) (parts : ℕ → Part) (n g : ℕ) → g < 9 → number (byGroup side parts n) g ≡ Σ< n (λ a. inGroup g (parts a) (side (parts a)))
+unfolding byGroup
+side-at side parts n g l = tabulated-at _ 9 g (pos 0) l

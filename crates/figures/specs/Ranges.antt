@@ -1,26 +1,13 @@
--- How large the numbers on the way can be, stated for four blocks added together. Assumes nothing.
+-- How large the sums on the way can be, stated for four blocks added together, and the five figures of one block. Assumes nothing.
 use mathlib.Core.Path.{_≡_}
 use mathlib.Core.List.{List}
-use Prim.Native.Nat.{ℕ, _*_, _<_}
-use lib.IntN.{ℤ}
+use Prim.Native.Nat.{ℕ, _*_, _<_, _^_}
+use lib.IntN.{ℤ, natAbs}
 use lib.ListN.{length}
 use Rattle.whole.specs.Bounds.{_within_, _upto_}
 use Rattle.whole.specs.Parts.{number}
-use Rattle.figures.specs.declared.Regime.{Regime}
-use Rattle.figures.specs.declared.Regime.the-variants.{Special, NotRecorded, Partial, Accepted}
-use Rattle.figures.specs.declared.Totals.{Totals}
-
--- what a regime carries is a share
-abbrev pub ShareRange : Regime → Type 0
-ShareRange Special = Unit {0}
-ShareRange NotRecorded = Unit {0}
-ShareRange (Partial share) = share upto 10000
-ShareRange (Accepted share) = share upto 10000
-
--- an asset's positions by date
-pub record PositionRanges (positions : List ℤ) : Type 0 where
-  pub size : length positions ≡ 8
-  pub each : (d : ℕ) → d < 8 → number positions d within 8000000
+use Rattle.figures.specs.declared.sums.Totals.{Totals}
+use Rattle.figures.specs.declared.limit.Figures.{Figures}
 
 -- the market risk of one side by group, of n assets
 pub record GroupRanges (n : ℕ) (risks : List ℤ) : Type 0 where
@@ -39,3 +26,11 @@ pub record TotalRanges (n : ℕ) (totals : Totals) : Type 0 where
   pub interest-upto : totals .interest upto (n * 640000000000000)
   pub long-range : GroupRanges n (totals .long)
   pub short-range : GroupRanges n (totals .short)
+
+-- every figure, in size: what a float holds without loss
+pub record Below2^53 (f : Figures) : Type 0 where
+  pub valuation-below : natAbs (f .valuation) < 2 ^ 53
+  pub market-below : natAbs (f .market) < 2 ^ 53
+  pub interest-below : natAbs (f .interest) < 2 ^ 53
+  pub discount-below : natAbs (f .discount) < 2 ^ 53
+  pub limit-below : natAbs (f .limit) < 2 ^ 53

@@ -1,135 +1,32 @@
 ghost use mathlib.Core.Path.{_≡_};
-ghost use mathlib.Core.Bool.{cond};
-ghost use Prim.Native.Nat.{ℕ, suc, _<_};
-ghost use lib.IntN.{pos};
-ghost use lib.Signed.{ltZ};
-ghost use mir.Syntax.{w64};
-ghost use mir.Val.{SFits};
+ghost use Prim.Native.Nat.{_<_};
 ghost use Rattle.whole.specs.Bounds.{_within_, _upto_};
 ghost use Rattle.whole.specs.Sums.{Σ<};
-ghost use Rattle.rates.specs.Ranges.{RowRanges, TableRanges};
-ghost use Rattle.rates.specs.InForce.{inForce};
+ghost use Rattle.rates.specs.Lent.{lent, given};
+ghost use Rattle.rates.specs.Ranges.{TableRanges};
 ghost use Rattle.book.specs.Ranges.{BlockRanges};
-ghost use Rattle.figures.specs.Limit.{groupOf, totalsOf, discountOf, singleLimit, figuresOf, rublesOf, assetIn, blockFigures, addedTo, withAsset};
-ghost use Rattle.figures.specs.Ranges.{PositionRanges, GroupRanges, PercentRanges, TotalRanges};
-use crate::Asset;
-use crate::Figures;
-use crate::Totals;
-use crate::record;
-use crate::risk;
+ghost use Rattle.figures.specs.Limit.{discountOf, figuresOf, rublesOf, blockFigures};
+ghost use Rattle.figures.specs.Ranges.{GroupRanges, PercentRanges, TotalRanges};
+use crate::sums;
+use crate::sums::Totals;
+use book::in_block;
+use rates::units::GROUP_COUNT;
 
-// The sums over the assets, the discount, and the five figures (document 01; clause 7 and Single Limit).
+// The discount, and the five figures (document 01; clause 7 and Single Limit).
 
-const ASSETS: usize = 16;
-
-const GROUPS: usize = 8;
-
-const RUBLES: usize = 9;
-
-// The spread group of a row, 0 for none.
-fn group_of(row: &[i64]) -> usize
-    requires { ⌜ RowRanges (now row) ⌝ }
-    ensures { λ r. ⌜ (r ≡ groupOf (now (row .entry))) × (r < 9) ⌝ }
-{
-    row[12] as usize
+// The five figures of a report.
+pub struct Figures {
+    pub valuation: i64,
+    pub market: i64,
+    pub interest: i64,
+    pub discount: i64,
+    pub limit: i64,
 }
 
-// x where the sum is above 0, else 0.
-fn if_long(sum: i64, x: i64) -> i64
-    requires { ⌜ x upto 640000000000000 ⌝ }
-    ensures { λ r. ⌜ (r ≡ cond (ltZ (pos 0) sum) x (pos 0)) × (r upto 640000000000000) ⌝ }
-{
-    if 0 < sum {
-        return x;
-    }
-    0
-}
+const HUNDRED_PERCENT: i64 = 100;
 
-// x where the sum is below 0, else 0.
-fn if_short(sum: i64, x: i64) -> i64
-    requires { ⌜ x upto 640000000000000 ⌝ }
-    ensures { λ r. ⌜ (r ≡ cond (ltZ sum (pos 0)) x (pos 0)) × (r upto 640000000000000) ⌝ }
-{
-    if sum < 0 {
-        return x;
-    }
-    0
-}
-
-// The risks by group with x added to group g's.
-fn added_to(risks: [i64; 9], g: usize, x: i64) -> [i64; 9]
-    requires { ⌜ GroupRanges 15 risks × (g < 9) × (x upto 640000000000000) ⌝ }
-    ensures { λ r. ⌜ r ≡ addedTo risks g x ⌝ }
-{
-    let mut sums = risks;
-    sums[g] = sums[g] + x;
-    sums
-}
-
-// The sums with one more asset.
-fn with_asset(totals: Totals, row: &[i64], x: Asset) -> Totals
-    requires { ⌜ TotalRanges 15 totals × RowRanges (now row) × PositionRanges (x .positions) × (x .worth within 960000000000000) ⌝ }
-    ensures { λ r. ⌜ (r ≡ withAsset totals (now (row .entry)) x) × ((n : ℕ) → TotalRanges n totals → n < 16 → TotalRanges (suc n) r) ⌝ }
-{
-    let positions = x.positions;
-    let market = risk::market_risk(row, positions);
-    let interest = risk::interest_risk(row, positions);
-    let sum = risk::sum_of(positions);
-    let group = group_of(row);
-    let longs = totals.long;
-    let shorts = totals.short;
-    let long = added_to(longs, group, if_long(sum, market));
-    let short = added_to(shorts, group, if_short(sum, market));
-    Totals {
-        valuation: totals.valuation + x.worth,
-        market: totals.market + market,
-        interest: totals.interest + interest,
-        long,
-        short,
-    }
-}
-
-// The sums with asset a of a block. An asset of which nothing is held adds nothing and is passed by, so an account costs by what it holds.
-fn with_asset_of<'a>(
-    totals: Totals,
-    block: &[i64],
-    clearing: &'a [i64],
-    own: &'a [i64],
-    groups: &[i64],
-    a: usize,
-) -> Totals
-    requires { ⌜ TotalRanges 15 totals × BlockRanges (now block) × TableRanges (now clearing) (now own) (now groups) × (a < 16) ⌝ }
-    ensures { λ r. ⌜ (r ≡ withAsset totals (inForce (now (clearing .entry)) (now (own .entry)) a) (assetIn (now (block .entry)) (now (clearing .entry)) (now (own .entry)) a)) × ((n : ℕ) → TotalRanges n totals → n < 16 → TotalRanges (suc n) r) ⌝ }
-{
-    let at = 16 + 17 * a;
-    if book::is_empty(&block[at..at + 17]) {
-        return totals;
-    }
-    let row = rates::row_in_force(clearing, own, a);
-    let account = block[0] as usize;
-    let x = record::asset_of(account, row, &block[at..at + 17]);
-    with_asset(totals, row, x)
-}
-
-// The sums over the sixteen assets.
-fn totals_of<'a>(block: &[i64], clearing: &'a [i64], own: &'a [i64], groups: &[i64]) -> Totals
-    requires { ⌜ BlockRanges (now block) × TableRanges (now clearing) (now own) (now groups) ⌝ }
-    ensures { λ r. ⌜ (r ≡ totalsOf (inForce (now (clearing .entry)) (now (own .entry))) (assetIn (now (block .entry)) (now (clearing .entry)) (now (own .entry))) 16) × TotalRanges 16 r ⌝ }
-{
-    let mut totals = Totals {
-        valuation: 0,
-        market: 0,
-        interest: 0,
-        long: [0i64; 9],
-        short: [0i64; 9],
-    };
-    let mut a: usize = 0;
-    while a < ASSETS {
-        totals = with_asset_of(totals, block, clearing, own, groups, a);
-        a += 1;
-    }
-    totals
-}
+// Ruble collateral and eight ruble nets.
+const RUBLE_NUMBERS: usize = in_block::RUBLES_END - in_block::RUBLE_COLLATERAL;
 
 // The discount of group g + 1.
 fn discount_of(groups: &[i64], longs: [i64; 9], shorts: [i64; 9], g: usize) -> i64
@@ -139,7 +36,7 @@ fn discount_of(groups: &[i64], longs: [i64; 9], shorts: [i64; 9], g: usize) -> i
     let long = longs[1 + g];
     let short = shorts[1 + g];
     let lesser = whole::lesser(long, short);
-    whole::divided_down(2 * groups[g] * lesser, 100)
+    whole::divided_down(2 * groups[g] * lesser, HUNDRED_PERCENT)
 }
 
 // The discount of the eight groups.
@@ -149,7 +46,7 @@ fn discounts(groups: &[i64], longs: [i64; 9], shorts: [i64; 9]) -> i64
 {
     let mut sum: i64 = 0;
     let mut g: usize = 0;
-    while g < GROUPS {
+    while g < GROUP_COUNT {
         sum += discount_of(groups, longs, shorts, g);
         g += 1;
     }
@@ -163,19 +60,11 @@ fn rubles_of(block: &[i64]) -> i64
 {
     let mut sum: i64 = 0;
     let mut k: usize = 0;
-    while k < RUBLES {
-        sum += block[1 + k];
+    while k < RUBLE_NUMBERS {
+        sum += block[in_block::RUBLE_COLLATERAL + k];
         k += 1;
     }
     sum
-}
-
-// Valuation less both risks and with the discount.
-fn single_limit(valuation: i64, market: i64, interest: i64, discount: i64) -> i64
-    requires { ⌜ (valuation within 20000000000000000) × (market upto 10240000000000000) × (interest upto 10240000000000000) × (discount upto 81920000000000000) ⌝ }
-    ensures { λ r. ⌜ (r ≡ singleLimit valuation market interest discount) × SFits w64 r ⌝ }
-{
-    valuation - market - interest + discount
 }
 
 // The five figures from the sums.
@@ -189,7 +78,7 @@ fn figures_of(totals: Totals, groups: &[i64], rubles: i64) -> Figures
     let valuation = totals.valuation + rubles;
     let market = totals.market;
     let interest = totals.interest;
-    let limit = single_limit(valuation, market, interest, discount);
+    let limit = valuation - market - interest + discount;
     Figures {
         valuation,
         market,
@@ -206,10 +95,10 @@ pub fn block_figures<'a>(
     own: &'a [i64],
     groups: &[i64],
 ) -> Figures
-    requires { ⌜ BlockRanges (now block) × TableRanges (now clearing) (now own) (now groups) ⌝ }
-    ensures { λ r. ⌜ r ≡ blockFigures (now (block .entry)) (now (clearing .entry)) (now (own .entry)) (now (groups .entry)) ⌝ }
+    requires { ⌜ BlockRanges (now block) × TableRanges (lent clearing own groups) ⌝ }
+    ensures { λ r. ⌜ r ≡ blockFigures (now (block .entry)) (given clearing own groups) ⌝ }
 {
-    let totals = totals_of(block, clearing, own, groups);
+    let totals = sums::totals_of(block, clearing, own, groups);
     let rubles = rubles_of(block);
     figures_of(totals, groups, rubles)
 }

@@ -1,4 +1,4 @@
--- `figures::limit::discount_of` meets its contract: twice a percent of at most 50 times the smaller side is in range, and a hundredth of it is at
+-- `limit::discount_of` meets its contract: twice a percent of at most 50 times the smaller side is in range, and a hundredth of it is at
 -- most the smaller side.
 -- Assumes nothing.
 use mathlib.Core.Path.{sym, ap, _∙_, subst}
@@ -16,7 +16,7 @@ use Rattle.whole.proofs.Machine.{Runs, need!, runs, clean₂}
 use Rattle.whole.proofs.Rules.{ints}
 use Rattle.figures.specs.Limit.{discountOf}
 use Rattle.whole.proofs.InRange.{product-upto}
-use Rattle.figures.proofs.Discount.{twice-upto, discount-upto}
+use Rattle.figures.proofs.limit.Discount.{twice-upto, discount-upto}
 use Rattle.figures.proofs.limit.discount_of.Statement.{statement}
 use Rattle.figures.proofs.limit.discount_of.Tie as tie
 
@@ -69,17 +69,5 @@ returns c =
 pub discount-of-spec : {M : Type 1} → statement M
 discount-of-spec =
     tie.close
-    (tie.spec
-    (λ c. search needs)
-    (λ c. search needs)
-    (λ c. search needs)
-    (λ c. search needs)
-    (λ c. search needs)
-    (λ c. search needs)
-    (λ c κs. search needs)
-    (λ c. search needs)
-    (λ c. search needs)
-    mul-divided-down-2
-    mul-divided-down-3
-    divided-down-requires
-    returns)
+    (tie.spec (λ c. search needs) (λ c. search needs) (λ c. search needs) (λ c. search needs) (λ c. search needs) (λ c. search needs) (λ c κs. search needs)
+    (λ c. search needs) (λ c. search needs) mul-divided-down-2 mul-divided-down-3 divided-down-requires returns)

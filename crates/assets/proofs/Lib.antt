@@ -1,0 +1,6 @@
+-- Laws of what specs/ defines: C' and the positions, the charge, the two sides of a position, sizes, an asset of which nothing is held, and what a deposit
+-- does to an asset's part of the sums.
+pub mod Sizes
+pub mod Unheld
+pub mod Raised
+pub mod AssetDeposit

@@ -1,0 +1,2 @@
+-- An asset's positions by date.
+pub mod Positions

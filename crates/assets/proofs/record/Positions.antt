@@ -1,0 +1,59 @@
+-- Laws of an asset's positions by date (specs/Asset): what they come to, and how large they can be in one block. Assumes nothing.
+use mathlib.Core.Path.{_≡_, refl, sym, subst}
+use mathlib.Core.List.{List}
+use Prim.Native.Nat.{ℕ, zero, suc, _+_, _<_, _^_}
+use native.Mathlib.Nat.{suc-ne-zero}
+use native.Mathlib.Omega.{arith}
+use lib.IntN.{ℤ, pos, _+ℤ_, +ℤ-idr}
+use Rattle.whole.specs.Bounds.{_within_}
+use Rattle.whole.specs.Parts.{tabulated}
+use Rattle.whole.proofs.Expressions.{var, _⊖_, is}
+use Rattle.whole.proofs.Rules.{ints}
+use Rattle.whole.proofs.Bounds.{wider, upto-within, product-within}
+use Rattle.whole.proofs.Tabulated.{tabulated-length, tabulated-at}
+use Rattle.rates.specs.Ranges.{RowRanges}
+use Rattle.book.specs.Block.{claim, obligation}
+use Rattle.book.specs.Ranges.{HoldingRanges}
+use Rattle.assets.specs.Asset.{net, position, worthOf}
+use Rattle.assets.specs.Ranges.{PositionRanges}
+
+-- claims less obligations of a date are at most a million
+pub net-within : (holding : List ℤ) → HoldingRanges holding → (d : ℕ) → d < 8 → net holding d within 1000000
+unfolding net
+net-within holding good d l =
+    let a = good .claim-upto d l in let b = good .obligation-upto d l in omega (ints, is (var (claim holding d) ⊖ var (obligation holding d)))
+
+module _ (holding : List ℤ) (c : ℤ) where
+  -- date 0 has c beside its claims less obligations, a later date has them alone
+  pub position-first : position holding c 0 ≡ net holding 0 +ℤ c
+  unfolding position
+  position-first = refl
+
+  pub position-later : (d : ℕ) → (d ≡ 0 → ⊥) → position holding c d ≡ net holding d
+  unfolding position
+  position-later zero h = absurd (h refl)
+  position-later (suc d) h = +ℤ-idr (net holding (suc d))
+
+  module _ (good : HoldingRanges holding) where
+    -- the position of a later date is at most a million
+    pub position-later-within : (d : ℕ) → d < 8 → (d ≡ 0 → ⊥) → position holding c d within 1000000
+    position-later-within d l h = let a = net-within holding good d l in let e = position-later d h in omega ints
+
+    -- to that of date 0 c adds its own size
+    pub position-within : (k d : ℕ) → 1000000 + k < 2 ^ 63 → c within k → d < 8 → position holding c d within (1000000 + k)
+    position-within k zero m h l = let a = net-within holding good 0 l in let e = position-first in omega ints
+    position-within k (suc d) m h l = wider (1000000 + k) (position-later-within (suc d) l (λ e. suc-ne-zero d e)) (omega arith)
+
+    -- the eight positions are in the range that risk asks of them, which is wide enough for four blocks
+    pub positions-range : c within 1000000 → PositionRanges (tabulated 8 (position holding c))
+    positions-range h = record {
+      size = tabulated-length (position holding c) 8;
+      each = λ d l. subst (λ (x : ℤ). x within 8000000) (sym (tabulated-at (position holding c) 8 d (pos 0) l))
+          (wider 8000000 (position-within 1000000 d (omega arith) h l) (omega arith));
+    }
+
+-- the worth of a date: at most three million units at ten million each
+pub worth-within : (row : List ℤ) → RowRanges row → (holding : List ℤ) → HoldingRanges holding → (c : ℤ) → c within 2000000 → (d : ℕ) → d < 8
+    → worthOf row holding c d within 30000000000000
+unfolding worthOf
+worth-within row r holding h c k d l = product-within (position-within holding c h 2000000 d (omega arith) k l) (upto-within (r .date d l .level-upto)) (omega arith)

@@ -1,0 +1,99 @@
+ghost use mathlib.Core.Path.{_≡_};
+ghost use Prim.Native.Nat.{_<_};
+ghost use Rattle.whole.specs.Bounds.{_upto_};
+ghost use Rattle.rates.specs.Lent.{lent, given};
+ghost use Rattle.rates.specs.Ranges.{TableRanges};
+ghost use Rattle.book.specs.Ranges.{BlockRanges};
+ghost use Rattle.assets.specs.Ranges.{PartRanges};
+ghost use Rattle.figures.specs.Limit.{totalsOf, partIn, addedTo, withPart};
+ghost use Rattle.figures.specs.Ranges.{GroupRanges, TotalRanges};
+use assets::Part;
+use book::in_block;
+use rates::units::ASSET_COUNT;
+
+// The sums over the assets of a block.
+
+// Sums over assets: valuation, both risks, and market risk by side and group 0 to 8.
+pub struct Totals {
+    pub valuation: i64,
+    pub market: i64,
+    pub interest: i64,
+    pub long: [i64; 9],
+    pub short: [i64; 9],
+}
+
+// The risks by group with x added to group g's.
+fn added_to(risks: [i64; 9], g: usize, x: i64) -> [i64; 9]
+    requires { ⌜ GroupRanges 15 risks × (g < 9) × (x upto 640000000000000) ⌝ }
+    ensures { λ r. ⌜ r ≡ addedTo risks g x ⌝ }
+{
+    let mut more = risks;
+    more[g] = more[g] + x;
+    more
+}
+
+// The sums with one more asset's part.
+fn with_part(totals: Totals, part: Part) -> Totals
+    requires { ⌜ TotalRanges 15 totals × PartRanges part ⌝ }
+    ensures { λ r. ⌜ r ≡ withPart totals part ⌝ }
+{
+    let longs = totals.long;
+    let shorts = totals.short;
+    let long = added_to(longs, part.group, part.long);
+    let short = added_to(shorts, part.group, part.short);
+    Totals {
+        valuation: totals.valuation + part.worth,
+        market: totals.market + part.market,
+        interest: totals.interest + part.interest,
+        long,
+        short,
+    }
+}
+
+// The sums with asset a of a block. An asset of which nothing is held adds nothing and is passed by, so an account costs by what it holds.
+fn with_asset<'a>(
+    totals: Totals,
+    block: &[i64],
+    clearing: &'a [i64],
+    own: &'a [i64],
+    groups: &[i64],
+    a: usize,
+) -> Totals
+    requires { ⌜ TotalRanges 15 totals × BlockRanges (now block) × TableRanges (lent clearing own groups) × (a < 16) ⌝ }
+    ensures { λ r. ⌜ r ≡ withPart totals (partIn (now (block .entry)) (given clearing own groups) a) ⌝ }
+{
+    let at = in_block::HOLDINGS + in_block::HOLDING_LENGTH * a;
+    if whole::all_zero(&block[at..at + in_block::HOLDING_LENGTH]) {
+        return totals;
+    }
+    let row = rates::row_in_force(clearing, own, a);
+    let kind = block[in_block::ACCOUNT_KIND] as usize;
+    let x = assets::asset_of(kind, row, &block[at..at + in_block::HOLDING_LENGTH]);
+    let part = assets::part_of(row, x);
+    with_part(totals, part)
+}
+
+// The sums over the sixteen assets.
+pub(crate) fn totals_of<'a>(
+    block: &[i64],
+    clearing: &'a [i64],
+    own: &'a [i64],
+    groups: &[i64],
+) -> Totals
+    requires { ⌜ BlockRanges (now block) × TableRanges (lent clearing own groups) ⌝ }
+    ensures { λ r. ⌜ r ≡ totalsOf (partIn (now (block .entry)) (given clearing own groups)) 16 ⌝ }
+{
+    let mut totals = Totals {
+        valuation: 0,
+        market: 0,
+        interest: 0,
+        long: [0i64; 9],
+        short: [0i64; 9],
+    };
+    let mut a: usize = 0;
+    while a < ASSET_COUNT {
+        totals = with_asset(totals, block, clearing, own, groups, a);
+        a += 1;
+    }
+    totals
+}
