@@ -1,29 +1,16 @@
-/* The Single Limit engine for C and whatever links with C. Every function takes any numbers and any lengths and answers a code; a refusal
- * writes nothing (a refused report writes five zeros, a refused check of tables writes place 0 unless the code is 2). Nothing is allocated,
- * nothing is kept between calls, and nothing is written but what is said here.
+/* The Single Limit engine for C, C++ and whatever links with C.
  *
- * A slice is a pointer and a length in numbers. A pointer is never null and is aligned; a slice that is written overlaps no other.
+ * Every call takes any numbers and any lengths and answers a code. A refusal writes nothing, but for this: a refused report writes five zeros
+ * (unless the length of `figures` itself is wrong), and a refused check of tables writes its place, which is 0 unless the code is 2.
  *
- * Buffers, all of int64_t (kopecks, units, hundredths of a percent):
- *   book      4,608 numbers, 16 blocks of 288. A block: 0 kind (0 not open, 1 ordinary, 2 pool, 3 pool of the list); 1 ruble collateral;
- *             2 to 9 ruble net by date; 10 to 15 zero; asset a from 16 + 17a: collateral, eight claims by date, eight obligations by date.
- *   clearing  1,024 numbers, 16 rows of 64: the clearing house's risk rates, row a for asset a.
- *   own       1,024 numbers: our own rows; an own row of zeros is absent, else it is in force in place of the clearing row.
- *   groups    8 numbers: the discount percent of groups 1 to 8, each 0 to 50.
+ * What the caller keeps, since no call can look for it:
+ *   - a pointer is not null, is aligned for its type, and is good for as many numbers as its length says;
+ *   - what is written (`book`, and `place` and `figures` too) overlaps nothing else that is lent to the same call;
+ *   - one writer to a book at a time, and nobody reads it or writes the lent tables meanwhile.
+ * The engine has no state of its own and allocates nothing: any number of books, tables and threads may use it at once.
  *
- * Codes, in the order in which they are looked for:
- *    0  done
- *    1  a lent length is wrong
- *    2  the table check finds a broken number
- *    3  account number not 0 to 15
- *    6  the block breaks the block rules; where tables are lent, also a nonzero holding in an unlisted asset
- *    4  account not open
- *    5  open on an open account
- *    7  asset unlisted or not 0 to 15 (a move also takes 255, rubles), date not 0 to 7, side not 0 or 1, kind to open not 1 to 3
- *    8  quantity not 1 to 10^6; order money not 0 to 10^14; move 0, or beyond 10^6 either way (10^14 for rubles)
- *    9  a number would leave its bounds, or a withdrawal would leave collateral below 0
- *   10  the limit after an order or a withdrawal would be negative
- */
+ * All numbers are int64_t: money is whole kopecks, quantities whole units, rates and shares hundredths of a percent (10,000 is the whole).
+ * tests/header holds names, numbers and parameters here to the engine's source. */
 #ifndef SINGLE_LIMIT_H
 #define SINGLE_LIMIT_H
 
@@ -34,10 +21,204 @@
 extern "C" {
 #endif
 
-/* Are the tables sound? With code 2, *place is the place of the first broken number: clearing 0 to 1023, own 1024 to 2047, groups 2048 to 2055;
- * else 0. */
+/* The version of this face: the first number changes where a program must. */
+#define SINGLE_LIMIT_VERSION "1.0.0"
+
+/* Accounts 0 to 15, assets 0 to 15, dates 0 to 7 (date 0 is T0), groups 1 to 8. */
+#define SINGLE_LIMIT_ACCOUNTS 16
+#define SINGLE_LIMIT_ASSETS 16
+#define SINGLE_LIMIT_DATES 8
+#define SINGLE_LIMIT_GROUPS 8
+
+/* Lengths in numbers. A book is 16 blocks, a table (clearing, own) 16 rows; a block has 16 holdings, a row 8 dates. */
+#define SINGLE_LIMIT_BOOK_LENGTH 4608
+#define SINGLE_LIMIT_BLOCK_LENGTH 288
+#define SINGLE_LIMIT_HOLDING_LENGTH 17
+#define SINGLE_LIMIT_TABLE_LENGTH 1024
+#define SINGLE_LIMIT_ROW_LENGTH 64
+#define SINGLE_LIMIT_DATE_LENGTH 5
+#define SINGLE_LIMIT_GROUPS_LENGTH 8
+#define SINGLE_LIMIT_FIGURES_LENGTH 5
+
+/* Bounds: of rubles and of units either way; of prices, concentration limits and a date's distances; of shares and rates; of a percent. */
+#define SINGLE_LIMIT_MOST_RUBLES INT64_C(100000000000000)
+#define SINGLE_LIMIT_MOST_UNITS INT64_C(1000000)
+#define SINGLE_LIMIT_MOST_PRICE INT64_C(10000000)
+#define SINGLE_LIMIT_WHOLE INT64_C(10000)
+#define SINGLE_LIMIT_MOST_PERCENT INT64_C(50)
+
+/* Row: what is known of an asset. Row a of a table is of asset a. Rules are checked by rising number; one over two numbers breaks at the later.
+ *
+ *   number            meaning                                                          rule
+ *   0                 kind: 1 security, 2 currency or metal, 3 commodity, 0 unlisted   an unlisted row is all zero
+ *   1                 price                                                            1 to 10^7
+ *   2, 3              acceptance share, pool share                                     0 to 10,000
+ *   4                 covered sales: 0 recorded, 1 not recorded, 2 partial             0 to 2
+ *   5                 special delivery                                                 0 or 1
+ *   6, 7              fall rate, rise rate                                             0 to 10,000; equal for kind 3
+ *   8, 9              raised fall, raised rise                                         base rate to 10,000; equal for kind 3
+ *   10, 11            market and interest concentration limits                         0 to 10^7
+ *   12                spread group                                                     0 none, to 8
+ *   13 to 15          spare                                                            zero
+ *   16 + 5d           mid of date d                                                    price + mid from 0 to 10^7
+ *   +1, +2            low, up of that date                                             mid - 10^7 <= low <= mid <= up <= mid + 10^7
+ *   +3, +4            outer low, outer up of that date                                 mid - 10^7 <= outer low <= low; up <= outer up <= mid + 10^7
+ *   56 to 63          rest                                                             zero
+ *
+ * A row with a kind and a price alone is sound and has no risk: a rate of 0 is a rate like any other, not one that is missing. The table check
+ * cannot tell a row that was half filled from one that is meant so; whoever fills rows must.
+ *
+ * An own row of zeros is absent; else it has the kind of the listed clearing row and is in force in its place. */
+#define SINGLE_LIMIT_ROW_KIND 0
+#define SINGLE_LIMIT_ROW_PRICE 1
+#define SINGLE_LIMIT_ROW_ACCEPTANCE_SHARE 2
+#define SINGLE_LIMIT_ROW_POOL_SHARE 3
+#define SINGLE_LIMIT_ROW_COVERED_SALES 4
+#define SINGLE_LIMIT_ROW_SPECIAL_DELIVERY 5
+#define SINGLE_LIMIT_ROW_FALL 6
+#define SINGLE_LIMIT_ROW_RISE 7
+#define SINGLE_LIMIT_ROW_RAISED_FALL 8
+#define SINGLE_LIMIT_ROW_RAISED_RISE 9
+#define SINGLE_LIMIT_ROW_MARKET_LIMIT 10
+#define SINGLE_LIMIT_ROW_INTEREST_LIMIT 11
+#define SINGLE_LIMIT_ROW_SPREAD_GROUP 12
+#define SINGLE_LIMIT_ROW_SPARE 13
+#define SINGLE_LIMIT_ROW_DATES 16
+#define SINGLE_LIMIT_ROW_REST 56
+
+/* In a date of a row. */
+#define SINGLE_LIMIT_DATE_MID 0
+#define SINGLE_LIMIT_DATE_LOW 1
+#define SINGLE_LIMIT_DATE_UP 2
+#define SINGLE_LIMIT_DATE_OUTER_LOW 3
+#define SINGLE_LIMIT_DATE_OUTER_UP 4
+
+/* Kinds of a row, and covered sales. */
+#define SINGLE_LIMIT_ASSET_UNLISTED 0
+#define SINGLE_LIMIT_ASSET_SECURITY 1
+#define SINGLE_LIMIT_ASSET_CURRENCY_OR_METAL 2
+#define SINGLE_LIMIT_ASSET_COMMODITY 3
+#define SINGLE_LIMIT_SALES_RECORDED 0
+#define SINGLE_LIMIT_SALES_NOT_RECORDED 1
+#define SINGLE_LIMIT_SALES_PARTIAL 2
+
+/* Groups: number g - 1 is the discount percent of group g, 0 to 50. Group 0 of a row is none and has no number. */
+
+/* Places of the table check: that of a number in the clearing table, 1,024 more in the own table, 2,048 more in the groups; and their
+ * count. */
+#define SINGLE_LIMIT_PLACE_CLEARING 0
+#define SINGLE_LIMIT_PLACE_OWN 1024
+#define SINGLE_LIMIT_PLACE_GROUPS 2048
+#define SINGLE_LIMIT_PLACES 2056
+
+/* Block: an account. One that is not open is all zero. A book of zeros is sound, with no account open.
+ *
+ *   number            meaning                                                        bounds
+ *   0                 kind: 0 not open, 1 ordinary, 2 pool, 3 pool of the list       0 to 3
+ *   1                 ruble collateral                                               10^14 either way
+ *   2 + d             ruble net of trades of date d                                  10^14 either way
+ *   10 to 15          spare                                                          zero
+ *   16 + 17a          collateral of asset a                                          10^6 either way
+ *   16 + 17a + 1 + d  claim of asset a at date d                                     0 to 10^6
+ *   16 + 17a + 9 + d  obligation of asset a at date d                                0 to 10^6 */
+#define SINGLE_LIMIT_BLOCK_KIND 0
+#define SINGLE_LIMIT_BLOCK_RUBLE_COLLATERAL 1
+#define SINGLE_LIMIT_BLOCK_RUBLE_NETS 2
+#define SINGLE_LIMIT_BLOCK_SPARE 10
+#define SINGLE_LIMIT_BLOCK_HOLDINGS 16
+#define SINGLE_LIMIT_HOLDING_COLLATERAL 0
+#define SINGLE_LIMIT_HOLDING_CLAIMS 1
+#define SINGLE_LIMIT_HOLDING_OBLIGATIONS 9
+
+/* Kinds of an account, the asset that stands for rubles in a move, and sides of an order. */
+#define SINGLE_LIMIT_ACCOUNT_NOT_OPEN 0
+#define SINGLE_LIMIT_ACCOUNT_ORDINARY 1
+#define SINGLE_LIMIT_ACCOUNT_POOL 2
+#define SINGLE_LIMIT_ACCOUNT_POOL_OF_THE_LIST 3
+#define SINGLE_LIMIT_RUBLES 255
+#define SINGLE_LIMIT_BUY 0
+#define SINGLE_LIMIT_SELL 1
+
+/* In the five figures of a report. */
+#define SINGLE_LIMIT_FIGURE_VALUATION 0
+#define SINGLE_LIMIT_FIGURE_MARKET_RISK 1
+#define SINGLE_LIMIT_FIGURE_INTEREST_RISK 2
+#define SINGLE_LIMIT_FIGURE_DISCOUNT 3
+#define SINGLE_LIMIT_FIGURE_LIMIT 4
+
+/* Codes, by number; single_limit_words says each in words. They are looked for in the order 1, 2, 3, 6, 4, 5, 7, 8, 9, 10, and the first that
+ * applies is answered: a broken block is found before it is asked whether the account is open. */
+#define SINGLE_LIMIT_DONE 0
+#define SINGLE_LIMIT_REFUSED_WRONG_LENGTH 1
+#define SINGLE_LIMIT_REFUSED_BROKEN_NUMBER 2
+#define SINGLE_LIMIT_REFUSED_NO_ACCOUNT 3
+#define SINGLE_LIMIT_REFUSED_NOT_OPEN 4
+#define SINGLE_LIMIT_REFUSED_ALREADY_OPEN 5
+#define SINGLE_LIMIT_REFUSED_BROKEN_BLOCK 6
+#define SINGLE_LIMIT_REFUSED_WRONG_CHOICE 7
+#define SINGLE_LIMIT_REFUSED_WRONG_AMOUNT 8
+#define SINGLE_LIMIT_REFUSED_OUT_OF_BOUNDS 9
+#define SINGLE_LIMIT_REFUSED_NEGATIVE_LIMIT 10
+
+/* A code in words. */
+static inline const char *single_limit_words(uint8_t code) {
+    switch (code) {
+    case SINGLE_LIMIT_DONE: return "done";
+    case SINGLE_LIMIT_REFUSED_WRONG_LENGTH: return "a lent length is wrong";
+    case SINGLE_LIMIT_REFUSED_BROKEN_NUMBER: return "the table check finds a broken number";
+    case SINGLE_LIMIT_REFUSED_NO_ACCOUNT: return "account number not 0 to 15";
+    case SINGLE_LIMIT_REFUSED_NOT_OPEN: return "account not open";
+    case SINGLE_LIMIT_REFUSED_ALREADY_OPEN: return "open on an open account";
+    case SINGLE_LIMIT_REFUSED_BROKEN_BLOCK:
+        return "block breaks the block rules; where tables are lent, also a nonzero holding in an unlisted asset";
+    case SINGLE_LIMIT_REFUSED_WRONG_CHOICE:
+        return "asset unlisted or not 0 to 15 (a move also takes 255, rubles), date not 0 to 7, side not 0 or 1, "
+               "account kind to open not 1 to 3";
+    case SINGLE_LIMIT_REFUSED_WRONG_AMOUNT:
+        return "quantity not 1 to 10^6; order money not 0 to 10^14; move 0, or beyond 10^6 either way (10^14 for rubles)";
+    case SINGLE_LIMIT_REFUSED_OUT_OF_BOUNDS:
+        return "a number would leave its bounds, or a withdrawal would leave collateral below 0";
+    case SINGLE_LIMIT_REFUSED_NEGATIVE_LIMIT: return "limit after an order or withdrawal would be negative";
+    default: return "not a code of the engine";
+    }
+}
+
+/* Where numbers stand. Nothing is checked: an account, asset or date that there is not gives an index of something else, or beyond. */
+
+/* In a table: a number of an asset's row (SINGLE_LIMIT_ROW_...). */
+static inline size_t single_limit_row_at(size_t asset, size_t number) { return SINGLE_LIMIT_ROW_LENGTH * asset + number; }
+
+/* In a table: a number of a date of an asset's row (SINGLE_LIMIT_DATE_...). */
+static inline size_t single_limit_date_at(size_t asset, size_t date, size_t number) {
+    return single_limit_row_at(asset, SINGLE_LIMIT_ROW_DATES + SINGLE_LIMIT_DATE_LENGTH * date + number);
+}
+
+/* In a book: a number of an account's block (SINGLE_LIMIT_BLOCK_...). */
+static inline size_t single_limit_block_at(size_t account, size_t number) { return SINGLE_LIMIT_BLOCK_LENGTH * account + number; }
+
+/* In a book: an account's ruble net of a date. */
+static inline size_t single_limit_ruble_net_at(size_t account, size_t date) {
+    return single_limit_block_at(account, SINGLE_LIMIT_BLOCK_RUBLE_NETS + date);
+}
+
+/* In a book: an account's collateral of an asset, its claim and its obligation of a date. */
+static inline size_t single_limit_collateral_at(size_t account, size_t asset) {
+    return single_limit_block_at(account, SINGLE_LIMIT_BLOCK_HOLDINGS + SINGLE_LIMIT_HOLDING_LENGTH * asset);
+}
+static inline size_t single_limit_claim_at(size_t account, size_t asset, size_t date) {
+    return single_limit_collateral_at(account, asset) + SINGLE_LIMIT_HOLDING_CLAIMS + date;
+}
+static inline size_t single_limit_obligation_at(size_t account, size_t asset, size_t date) {
+    return single_limit_collateral_at(account, asset) + SINGLE_LIMIT_HOLDING_OBLIGATIONS + date;
+}
+
+/* Are the tables sound? With code 2, *place is the place of the first broken number (SINGLE_LIMIT_PLACE_...), else 0. */
 uint8_t single_limit_check_tables(const int64_t *clearing, size_t clearing_length, const int64_t *own, size_t own_length,
                                   const int64_t *groups, size_t groups_length, uint64_t *place);
+
+/* The cover test: 1 where the row in force of that asset passes it and is sound, else 0; 0 too for a wrong length or an asset not 0 to 15. No
+ * code is answered. */
+uint8_t single_limit_covers(const int64_t *clearing, size_t clearing_length, const int64_t *own, size_t own_length, int64_t asset);
 
 /* Open an account: kind 1 ordinary, 2 pool, 3 pool of the list. */
 uint8_t single_limit_open(int64_t *book, size_t book_length, int64_t account, int64_t kind);
@@ -47,7 +228,7 @@ uint8_t single_limit_move(int64_t *book, size_t book_length, const int64_t *clea
                           size_t own_length, const int64_t *groups, size_t groups_length, int64_t account, int64_t asset,
                           int64_t amount);
 
-/* Order: side 0 buys, 1 sells. Booked as a trade at once where the code is 0. */
+/* Order: side 0 buys, 1 sells. Booked as a trade at once where the code is 0; money is of the whole order, not of a unit. */
 uint8_t single_limit_order(int64_t *book, size_t book_length, const int64_t *clearing, size_t clearing_length, const int64_t *own,
                            size_t own_length, const int64_t *groups, size_t groups_length, int64_t account, int64_t asset,
                            int64_t date, int64_t side, int64_t quantity, int64_t money);

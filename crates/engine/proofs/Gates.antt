@@ -1,90 +1,102 @@
--- What a call's first refusals come to, test by test. Assumes nothing.
-use mathlib.Core.Path.{_≡_, refl, sym, ap, _∙_}
-use mathlib.Core.Bool.{true, false, not, _&&_}
+-- What a call's first refusals come to, test by test, and what they give where they let through. Assumes nothing.
+use mathlib.Core.Path.{_≡_, refl, sym, _∙_}
+use mathlib.Core.Bool.{true, not, _&&_}
 use mathlib.Core.List.{List, [], _∷_, _++_}
-use Prim.Native.Nat.{ℕ, _<_}
-use native.Mathlib.Omega.{arith}
-use lib.IntN.{ℤ, natAbs}
+use Prim.Native.Nat.{ℕ}
 use lib.ListN.{length}
-use lib.Dec.{eqb}
-use borrow.Author.Tests.{eq-eqb, eqb-true, not-false}
-use Rattle.whole.specs.Bounds.{isZero}
-use Rattle.whole.specs.Refusals.{Refusal, _gives_, firstCode}
-use Rattle.whole.proofs.Refusals.{Code, none, miss, code, testAt, none-holds, stops, follows}
-use Rattle.whole.proofs.Tests.{and-left, and-right}
-use Rattle.rates.specs.Tables.{lengthsRight, soundTables, checkCode}
+use lib.Dec.{eqb, ltb}
+use borrow.Author.Tests.{eq-eqb, eqb-true, ltb-true, not-false}
+use Rattle.whole.specs.Refusals.{Refusal, _gives_, firstCode, wrongLength, noAccount}
+use Rattle.whole.proofs.Refusals.{Code, none, miss, code, none-holds, stops, follows, goes-on, first-zero, second-zero}
+use Rattle.whole.proofs.Tests.{and-left, and-right, both, denied}
+use Rattle.rates.specs.Tables.{lengthsRight, tableRefusals, checkCode}
 use Rattle.rates.specs.Ranges.{TableRanges}
 use Rattle.rates.proofs.Sound.{ranges}
-use Rattle.book.specs.Block.{blockOf, accountKind}
 use Rattle.book.specs.Rules.{goodBlock, holdsListed}
-use Rattle.book.proofs.Blocks.{block-length}
-use Rattle.engine.specs.Refused.{accountRight, bookGate, tableGate, holdingRefusals}
-use Rattle.engine.proofs.Parameters.{index-is}
+use Rattle.book.specs.AtAccount.{InBook}
+use Rattle.rates.specs.Lent.{Tables}
+use Rattle.engine.specs.State.{State, blockAt}
+use Rattle.engine.specs.Refused.{bookGate, tableGate, holdingRefusals, reportRefusals}
+use Rattle.engine.specs.Ranges.{Judgeable}
 
 -- the refusals of the table check, and then the account's
-module _ (book clearing own groups : List ℤ) (account : ℤ) (long : length book ≡ 4608) where
-  abbrev tables : List Refusal
-  tables = not (lengthsRight clearing own groups) gives 1 ∷ not (soundTables clearing own groups) gives 2 ∷ []
+module _ (tables : Tables) (i : ℕ) (s : State) (long : length (s .book) ≡ 4608) where
+  abbrev ofTables : List Refusal
+  ofTables = not (lengthsRight tables) gives wrongLength ∷ tableRefusals tables
 
-  in-two : firstCode (tableGate book clearing own groups account) ≡ firstCode (tables ++ (not (accountRight account) gives 3 ∷ []))
-  in-two = rw (eq-eqb (length book) 4608 long) refl
+  abbrev ofAccount : List Refusal
+  ofAccount = not (ltb i 16) gives noAccount ∷ []
 
-  pub tables-refused : (checkCode clearing own groups ≡ 0 → ⊥) → checkCode clearing own groups ≡ firstCode (tableGate book clearing own groups account)
+  in-two : firstCode (tableGate tables i s) ≡ firstCode (ofTables ++ ofAccount)
+  in-two = rw (eq-eqb (length (s .book)) 4608 long) refl
+
+  pub tables-refused : (checkCode tables ≡ 0 → ⊥) → checkCode tables ≡ firstCode (tableGate tables i s)
   unfolding checkCode
-  tables-refused h = stops tables (not (accountRight account) gives 3 ∷ []) refl h ∙ sym in-two
+  tables-refused h = stops ofTables ofAccount refl h ∙ sym in-two
 
-  pub tables-passed : {n : ℕ} → checkCode clearing own groups ≡ 0 → Code (not (accountRight account) gives 3 ∷ []) n
-      → n ≡ firstCode (tableGate book clearing own groups account)
+  pub tables-passed : {n : ℕ} → checkCode tables ≡ 0 → Code ofAccount n → n ≡ firstCode (tableGate tables i s)
   unfolding checkCode
-  tables-passed e p = follows tables (not (accountRight account) gives 3 ∷ []) tt e (code p) ∙ sym in-two
+  tables-passed e p = follows ofTables ofAccount tt e (code p) ∙ sym in-two
 
 -- ---- what a gate says that was passed
-pub record BookPassed (book : List ℤ) (account : ℤ) : Type 0 where
-  pub long : length book ≡ 4608
-  pub account-right : accountRight account ≡ true
+pub book-passed : (i : ℕ) (s : State) → firstCode (bookGate i s) ≡ 0 → InBook (s .book) i
+book-passed i s e =
+    let off = none-holds (bookGate i s) tt e in
+    record { long = eqb-true (length (s .book)) 4608 (not-false _ (off 0)); below = ltb-true i 16 (not-false _ (off 1)) }
 
-pub book-passed : (book : List ℤ) (account : ℤ) → firstCode (bookGate book account) ≡ 0 → BookPassed book account
-book-passed book account e =
-    let off = none-holds (bookGate book account) tt e in
-    record { long = eqb-true (length book) 4608 (not-false _ (off 0)); account-right = not-false _ (off 1) }
+pub record TablePassed (tables : Tables) (i : ℕ) (s : State) : Type 0 where
+  pub there : InBook (s .book) i
+  pub sound : TableRanges tables
+  pub checked-0 : checkCode tables ≡ 0
 
-pub record TablePassed (book clearing own groups : List ℤ) (account : ℤ) : Type 0 where
-  pub long : length book ≡ 4608
-  pub tables : TableRanges clearing own groups
-  pub account-right : accountRight account ≡ true
+pub table-passed : (tables : Tables) (i : ℕ) (s : State) → firstCode (tableGate tables i s) ≡ 0 → TablePassed tables i s
+unfolding checkCode
+table-passed tables i s e =
+    let sized = eqb (length (s .book)) 4608 in
+    let account : List Refusal = not (ltb i 16) gives noAccount ∷ [] in
+    let off = none-holds (tableGate tables i s) tt e in
+    let lengths : sized && lengthsRight tables ≡ true = not-false _ (off 0) in
+    let long = eqb-true (length (s .book)) 4608 (and-left sized (lengthsRight tables) lengths) in
+    let past : firstCode (ofTables tables i s long ++ account) ≡ 0 = sym (in-two tables i s long) ∙ e in
+    let check : checkCode tables ≡ 0 = first-zero (ofTables tables i s long) account past in
+    record {
+      there = record { long = long; below = ltb-true i 16 (not-false _ (none-holds account tt (second-zero (ofTables tables i s long) account tt past) 0)) };
+      sound = ranges tables check;
+      checked-0 = check;
+    }
 
-module _ (book clearing own groups : List ℤ) (account : ℤ) (e : firstCode (tableGate book clearing own groups account) ≡ 0) where
-  off : (n : ℕ) → testAt n (tableGate book clearing own groups account) ≡ false
-  off = none-holds (tableGate book clearing own groups account) tt e
+-- ---- a report that answers 0
+pub record ReportPassed (tables : Tables) (i : ℕ) (s : State) : Type 0 where
+  pub gate-0 : firstCode (tableGate tables i s) ≡ 0
+  pub gate : TablePassed tables i s
+  pub judgeable : Judgeable tables i s
+  pub listed : holdsListed (blockAt s i) (tables .clearing) ≡ true
 
-  lengths : eqb (length book) 4608 && lengthsRight clearing own groups ≡ true
-  lengths = not-false _ (off 0)
+pub report-passed : (tables : Tables) (i : ℕ) (s : State) → firstCode (reportRefusals tables i s) ≡ 0 → ReportPassed tables i s
+report-passed tables i s e =
+    let gate = tableGate tables i s in
+    let held = holdingRefusals (tables .clearing) i s in
+    let g = table-passed tables i s (first-zero gate held e) in
+    let off = none-holds held tt (second-zero gate held tt e) in
+    let block = blockAt s i in
+    let good-and-listed = not-false (goodBlock block && holdsListed block (tables .clearing)) (off 0) in
+    record {
+      gate-0 = first-zero gate held e;
+      gate = g;
+      judgeable = record {
+        there = g .there;
+        good = and-left (goodBlock block) (holdsListed block (tables .clearing)) good-and-listed;
+        is-open = off 1;
+        sound = g .sound;
+      };
+      listed = and-right (goodBlock block) (holdsListed block (tables .clearing)) good-and-listed;
+    }
 
-  pub check-passed : checkCode clearing own groups ≡ 0
-  unfolding checkCode
-  check-passed = sym (code (miss (ap not (and-right (eqb (length book) 4608) (lengthsRight clearing own groups) lengths)) (miss (off 1) none)))
-
-  pub table-passed : TablePassed book clearing own groups account
-  table-passed = record {
-    long = eqb-true (length book) 4608 (and-left (eqb (length book) 4608) (lengthsRight clearing own groups) lengths);
-    tables = ranges clearing own groups check-passed;
-    account-right = not-false _ (off 2);
-  }
-
-  -- the account's block is there
-  pub account-below : natAbs account < 16
-  account-below = let h = index-is account 15 (table-passed .account-right) in omega arith
-
-  pub block-long : length (blockOf book (natAbs account)) ≡ 288
-  block-long = block-length book (table-passed .long) (natAbs account) account-below
-
--- a block past codes 6 and 4
-module _ (block clearing : List ℤ) (e : firstCode (holdingRefusals block clearing) ≡ 0) where
-  pub block-good : goodBlock block ≡ true
-  block-good = and-left (goodBlock block) (holdsListed block clearing 16) (not-false _ (none-holds (holdingRefusals block clearing) tt e 0))
-
-  pub block-listed : holdsListed block clearing 16 ≡ true
-  block-listed = and-right (goodBlock block) (holdsListed block clearing 16) (not-false _ (none-holds (holdingRefusals block clearing) tt e 0))
-
-  pub block-open : isZero (accountKind block) ≡ false
-  block-open = none-holds (holdingRefusals block clearing) tt e 1
+-- a state with a book of the same length, whose account may be judged and holds listed assets only, answers 0 too
+pub report-answers : (tables : Tables) (i : ℕ) (s other : State) → firstCode (tableGate tables i s) ≡ 0 → length (other .book) ≡ length (s .book)
+    → Judgeable tables i other → holdsListed (blockAt other i) (tables .clearing) ≡ true
+    → firstCode (reportRefusals tables i other) ≡ 0
+report-answers tables i s other gate long j listed =
+    let block = blockAt other i in
+    goes-on (tableGate tables i other) (holdingRefusals (tables .clearing) i other) tt (rw long gate)
+    ∙ sym (code (miss (denied (both (goodBlock block) (holdsListed block (tables .clearing)) (j .good) listed)) (miss (j .is-open) none)))

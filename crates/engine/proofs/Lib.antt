@@ -1,6 +1,7 @@
 -- The laws that the proofs of the calls share, and what a reader wants to know of every call.
-pub mod Parameters
-pub mod Gates
-pub mod Lent
-pub mod Reports
 pub mod Allowed
+pub mod Gates
+pub mod Outcomes
+pub mod Passed
+pub mod Judged
+pub mod Reports

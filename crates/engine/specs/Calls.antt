@@ -1,45 +1,63 @@
--- Document 01, "Calls and turning away": open, move, order and roll. A call's code is the first refusal that applies; the book afterwards holds the
--- one change where the code is 0, and is the book as it was otherwise.
+-- Document 01, "Calls and turning away": a call is what turns it away, in order, and the change that it makes where nothing does. Its code is the first
+-- refusal that applies; the state afterwards holds the one change where the code is 0, and is the state as it was otherwise.
 -- Assumes nothing.
-use mathlib.Core.List.{List, _++_}
+use mathlib.Core.List.{List, [], _++_}
 use Prim.Native.Nat.{ℕ}
 use lib.IntN.{ℤ, natAbs}
 use Rattle.whole.specs.Refusals.{Refusal, firstCode, leaves}
-use Rattle.book.specs.Block.{blockOf, putBlock}
+use Rattle.rates.specs.Lent.{Lent, Tables}
+use Rattle.book.specs.Choices.{tradeOf}
 use Rattle.book.specs.Changes.{opened, traded, moved}
 use Rattle.book.specs.Roll.{rolled}
-use Rattle.engine.specs.Refused.{bookGate, tableGate, openRefusals, rollRefusals, moveRefusals, orderRefusals, tradeOf}
+use Rattle.book.specs.declared.changes.Trade.{Trade}
+use Rattle.book.specs.declared.terms.Terms.{Terms}
+use Rattle.engine.specs.State.{State, left, changedAt}
+use Rattle.engine.specs.Refused.{openRefusals, rollRefusals, moveStands, moveJudged, orderStands, orderJudged}
 
--- what a call answers and leaves
+-- ---- any call
+pub record Call : Type 0 where
+  pub refusals : State → List Refusal
+  pub change : State → State
+
+-- what it answers and leaves
 pub record Outcome : Type 0 where
   pub code : ℕ
-  pub book : List ℤ
+  pub state : State
 
--- a code, and the book with the account's block changed where it is 0
-abbrev pub outcome : List Refusal → List ℤ → ℤ → List ℤ → Outcome
-outcome refusals book account block = record {
-  code = firstCode refusals;
-  book = leaves (firstCode refusals) (putBlock book (natAbs account) block) book;
-}
+abbrev pub codeOf : Call → State → ℕ
+codeOf call s = firstCode (call .refusals s)
 
-module _ (book : List ℤ) (account : ℤ) where
-  -- the account's block
-  abbrev pub blockAt : List ℤ
-  blockAt = blockOf book (natAbs account)
+unfoldable pub outcomeOf : Call → State → Outcome
+outcomeOf call s = record { code = codeOf call s; state = leaves (codeOf call s) (call .change s) s }
 
-  unfoldable pub openOutcome : ℤ → Outcome
-  openOutcome kind = outcome (bookGate book account ++ openRefusals blockAt kind) book account (opened blockAt kind)
+-- a code and a book, as a contract names what was answered and left
+abbrev pub answer : ℕ → Lent → Outcome
+answer code book = record { code = code; state = left book }
 
-  unfoldable pub rollOutcome : Outcome
-  rollOutcome = outcome (bookGate book account ++ rollRefusals blockAt) book account (rolled blockAt)
+-- a call that nothing turns away and that changes the account's block, and refusals before a call
+abbrev pub changing : ℕ → (List ℤ → List ℤ) → Call
+changing i change = record { refusals = λ s. []; change = changedAt i change }
 
-  module _ (clearing own groups : List ℤ) where
-    unfoldable pub moveOutcome : ℤ → ℤ → Outcome
-    moveOutcome asset amount =
-        outcome (tableGate book clearing own groups account ++ moveRefusals blockAt clearing own groups asset amount)
-        book account (moved blockAt (natAbs asset) amount)
+infixr 40 _before_
+abbrev pub _before_ : (State → List Refusal) → Call → Call
+first before call = record { refusals = λ s. first s ++ call .refusals s; change = call .change }
 
-    unfoldable pub orderOutcome : ℤ → ℤ → ℤ → ℤ → ℤ → Outcome
-    orderOutcome asset date side quantity money =
-        outcome (tableGate book clearing own groups account ++ orderRefusals blockAt clearing own groups asset date side quantity money)
-        book account (traded blockAt (tradeOf asset date side quantity money))
+-- ---- the calls
+unfoldable pub opening : ℕ → ℤ → Call
+opening i kind = openRefusals i kind before changing i (λ b. opened b kind)
+
+unfoldable pub rolling : ℕ → Call
+rolling i = rollRefusals i before changing i rolled
+
+-- a move and a trade once they stand: the limit is asked of the state with them
+unfoldable pub judgedMove : Tables → ℕ → ℕ → ℤ → Call
+judgedMove tables i asset amount = moveJudged tables i asset amount before changing i (λ b. moved b asset amount)
+
+unfoldable pub moving : Tables → ℕ → ℤ → ℤ → Call
+moving tables i asset amount = moveStands tables i asset amount before judgedMove tables i (natAbs asset) amount
+
+unfoldable pub judgedTrade : Tables → ℕ → Trade → Call
+judgedTrade tables i t = orderJudged tables i t before changing i (λ b. traded b t)
+
+unfoldable pub ordering : Tables → ℕ → Terms → Call
+ordering tables i o = orderStands tables i o before judgedTrade tables i (tradeOf o)

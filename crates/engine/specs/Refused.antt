@@ -1,125 +1,127 @@
 -- Document 01, "Calls and turning away": the grounds on which a call is turned away, as lists in the table's order. A new code, or a new ground, is
--- one line in one of these lists.
+-- one line in one of these lists. A list is of a state and of an account's place in the book, or of the call's own numbers.
 -- Assumes nothing.
-use mathlib.Core.Bool.{Bool, not, _&&_, _||_}
+use mathlib.Core.Bool.{Bool, cond, not, _&&_, _||_}
 use mathlib.Core.List.{List, [], _∷_, _++_}
 use Prim.Native.Nat.{ℕ}
-use lib.Dec.{eqb}
+use lib.Dec.{eqb, ltb}
 use lib.IntN.{ℤ, pos, natAbs}
 use lib.ListN.{length}
 use lib.Signed.{leZ, ltZ}
-use Rattle.whole.specs.Bounds.{between, equal, isZero}
-use Rattle.whole.specs.Refusals.{Refusal, _gives_}
-use Rattle.rates.specs.Tables.{lengthsRight, soundTables, listed}
-use Rattle.book.specs.Block.{bookLength, accountKind}
-use Rattle.book.specs.Rules.{rublesRight, collateralRight, allZero, goodBlock, holdsListed}
+use Rattle.whole.specs.Bounds.{between, isZero}
+use Rattle.whole.specs.Marks.{allZero}
+use Rattle.whole.specs.Refusals.{Refusal, _gives_, wrongLength, noAccount, brokenBlock, notOpen, alreadyOpen, wrongChoice, wrongAmount, outOfBounds, negativeLimit}
+use Rattle.rates.specs.Lent.{Tables}
+use Rattle.rates.specs.Tables.{lengthsRight, tableRefusals, listed}
+use Rattle.book.specs.Block.{accounts, bookLength, accountKind}
+use Rattle.book.specs.Rules.{kindRight, goodBlock, holdsListed}
+use Rattle.book.specs.Choices.{assetRight, choiceRight, amountsRight, isRubles, moveAmountRight, tradeOf}
 use Rattle.book.specs.Changes.{traded, tradeOut, moved, moveOut}
 use Rattle.book.specs.Roll.{rollOut}
-use Rattle.book.specs.declared.Trade.{Trade}
+use Rattle.book.specs.declared.changes.Trade.{Trade}
+use Rattle.book.specs.declared.terms.Terms.{Terms}
 use Rattle.figures.specs.Limit.{blockFigures}
+use Rattle.figures.specs.declared.limit.Figures.{Figures}
+use Rattle.engine.specs.State.{State, blockAt, changedAt}
+
+-- an account's place in the book; past the last where there is no such account
+unfoldable pub placeOf : ℤ → ℕ
+placeOf account = cond (between (pos 0) account (pos 15)) (natAbs account) accounts
 
 -- ---- codes 1, 2 and 3
-abbrev pub accountRight : ℤ → Bool
-accountRight account = between (pos 0) account (pos 15)
-
 -- of a call that is lent the book alone
-abbrev pub bookGate : List ℤ → ℤ → List Refusal
-bookGate book account =
-    not (eqb (length book) bookLength) gives 1
-    ∷ not (accountRight account) gives 3
+abbrev pub bookGate : ℕ → State → List Refusal
+bookGate i s =
+    not (eqb (length (s .book)) bookLength) gives wrongLength
+    ∷ not (ltb i accounts) gives noAccount
     ∷ []
 
 -- of a call that is lent tables and groups too
-abbrev pub tableGate : List ℤ → List ℤ → List ℤ → List ℤ → ℤ → List Refusal
-tableGate book clearing own groups account =
-    not (eqb (length book) bookLength && lengthsRight clearing own groups) gives 1
-    ∷ not (soundTables clearing own groups) gives 2
-    ∷ not (accountRight account) gives 3
-    ∷ []
+abbrev pub tableGate : Tables → ℕ → State → List Refusal
+tableGate tables i s =
+    not (eqb (length (s .book)) bookLength && lengthsRight tables) gives wrongLength
+    ∷ (tableRefusals tables ++ (not (ltb i accounts) gives noAccount ∷ []))
 
--- ---- codes 6 and 4, of the account's block
-abbrev pub blockRefusals : List ℤ → List Refusal
-blockRefusals block =
-    not (goodBlock block) gives 6
-    ∷ isZero (accountKind block) gives 4
+-- ---- codes 6 and 4
+abbrev pub blockRefusals : ℕ → State → List Refusal
+blockRefusals i s =
+    not (goodBlock (blockAt s i)) gives brokenBlock
+    ∷ isZero (accountKind (blockAt s i)) gives notOpen
     ∷ []
 
 -- where tables are lent, a holding in an unlisted asset is 6 too
-abbrev pub holdingRefusals : List ℤ → List ℤ → List Refusal
-holdingRefusals block clearing =
-    not (goodBlock block && holdsListed block clearing 16) gives 6
-    ∷ isZero (accountKind block) gives 4
+abbrev pub holdingRefusals : List ℤ → ℕ → State → List Refusal
+holdingRefusals clearing i s =
+    not (goodBlock (blockAt s i) && holdsListed (blockAt s i) clearing) gives brokenBlock
+    ∷ isZero (accountKind (blockAt s i)) gives notOpen
     ∷ []
+
+-- a report's refusals, with which a move and an order begin too
+abbrev pub reportRefusals : Tables → ℕ → State → List Refusal
+reportRefusals tables i s = tableGate tables i s ++ holdingRefusals (tables .clearing) i s
 
 -- ---- codes 7 and 8
-abbrev pub assetRight : List ℤ → ℤ → Bool
-assetRight clearing asset = between (pos 0) asset (pos 15) && listed clearing (natAbs asset)
-
-abbrev pub orderNumbers : List ℤ → ℤ → ℤ → ℤ → ℤ → ℤ → List Refusal
-orderNumbers clearing asset date side quantity money =
-    not (assetRight clearing asset && (between (pos 0) date (pos 7) && between (pos 0) side (pos 1))) gives 7
-    ∷ not (between (pos 1) quantity (pos 1000000) && between (pos 0) money (pos 100000000000000)) gives 8
+abbrev pub orderChecks : List ℤ → Terms → List Refusal
+orderChecks clearing o =
+    not (choiceRight o && listed clearing (natAbs (o .asset))) gives wrongChoice
+    ∷ not (amountsRight o) gives wrongAmount
     ∷ []
 
--- a move also takes 255, rubles; it is not 0, and within ±10^6, or ±10^14 for rubles
-abbrev pub rubles : ℤ → Bool
-rubles asset = equal asset (pos 255)
+-- a move also takes 255, rubles
+abbrev pub moveChoiceRight : List ℤ → ℤ → Bool
+moveChoiceRight clearing asset = isRubles asset || (assetRight asset && listed clearing (natAbs asset))
 
-abbrev pub moveRight : ℤ → ℤ → Bool
-moveRight asset amount =
-    not (isZero amount)
-    && ((rubles asset && rublesRight amount) || collateralRight amount)
-
-abbrev pub moveNumbers : List ℤ → ℤ → ℤ → List Refusal
-moveNumbers clearing asset amount =
-    not (rubles asset || assetRight clearing asset) gives 7
-    ∷ not (moveRight asset amount) gives 8
+abbrev pub moveChecks : List ℤ → ℤ → ℤ → List Refusal
+moveChecks clearing asset amount =
+    not (moveChoiceRight clearing asset) gives wrongChoice
+    ∷ not (moveAmountRight asset amount) gives wrongAmount
     ∷ []
 
--- ---- codes 9 and 10
--- the Single Limit of a block
-abbrev pub limitOf : List ℤ → List ℤ → List ℤ → List ℤ → ℤ
-limitOf block clearing own groups = blockFigures block clearing own groups .limit
+-- ---- code 9, and with it every code before 10: what stands may be judged
+abbrev pub orderStands : Tables → ℕ → Terms → State → List Refusal
+orderStands tables i o s =
+    reportRefusals tables i s ++ (orderChecks (tables .clearing) o ++ (tradeOut (blockAt s i) (tradeOf o) gives outOfBounds ∷ []))
 
--- admitted: the limit after is zero or more, whatever it was before
+abbrev pub moveStands : Tables → ℕ → ℤ → ℤ → State → List Refusal
+moveStands tables i asset amount s =
+    reportRefusals tables i s ++ (moveChecks (tables .clearing) asset amount ++ (moveOut (blockAt s i) (natAbs asset) amount gives outOfBounds ∷ []))
+
+-- ---- code 10
+-- an account's figures and its Single Limit
+abbrev pub figuresAt : Tables → ℕ → State → Figures
+figuresAt tables i s = blockFigures (blockAt s i) tables
+
+abbrev pub limitOf : Tables → ℕ → State → ℤ
+limitOf tables i s = figuresAt tables i s .limit
+
+-- the limit is enough: zero or more
+unfoldable pub enough : ℤ → Bool
+enough limit = leZ (pos 0) limit
+
+-- an order is admitted exactly when the limit with it booked is enough, whatever it was before
 unfoldable pub admitted : ℤ → ℤ → Bool
-admitted before after = leZ (pos 0) after
+admitted before after = enough after
 
-abbrev pub orderJudged : List ℤ → List ℤ → List ℤ → List ℤ → Trade → List Refusal
-orderJudged block clearing own groups t =
-    tradeOut block t gives 9
-    ∷ not (admitted (limitOf block clearing own groups) (limitOf (traded block t) clearing own groups)) gives 10
+abbrev pub orderJudged : Tables → ℕ → Trade → State → List Refusal
+orderJudged tables i t s =
+    not (admitted (limitOf tables i s) (limitOf tables i (changedAt i (λ b. traded b t) s))) gives negativeLimit
     ∷ []
 
 -- a deposit is never asked for the limit
-abbrev pub moveJudged : List ℤ → List ℤ → List ℤ → List ℤ → ℕ → ℤ → List Refusal
-moveJudged block clearing own groups asset amount =
-    moveOut block asset amount gives 9
-    ∷ (ltZ amount (pos 0) && ltZ (limitOf (moved block asset amount) clearing own groups) (pos 0)) gives 10
+abbrev pub moveJudged : Tables → ℕ → ℕ → ℤ → State → List Refusal
+moveJudged tables i asset amount s =
+    (ltZ amount (pos 0) && not (enough (limitOf tables i (changedAt i (λ b. moved b asset amount) s)))) gives negativeLimit
     ∷ []
 
+-- ---- open and roll, which are lent the book alone
 -- open's own words: all zero goes on to 7; a first number of 1 to 3 gives 5; else 6
-abbrev pub openRefusals : List ℤ → ℤ → List Refusal
-openRefusals block kind =
-    not (allZero block || between (pos 1) (accountKind block) (pos 3)) gives 6
-    ∷ between (pos 1) (accountKind block) (pos 3) gives 5
-    ∷ not (between (pos 1) kind (pos 3)) gives 7
-    ∷ []
+abbrev pub openRefusals : ℕ → ℤ → State → List Refusal
+openRefusals i kind s =
+    bookGate i s
+    ++ (not (allZero (blockAt s i) || kindRight (accountKind (blockAt s i))) gives brokenBlock
+    ∷ kindRight (accountKind (blockAt s i)) gives alreadyOpen
+    ∷ not (kindRight kind) gives wrongChoice
+    ∷ [])
 
--- ---- a call's refusals past the gate, all of the account's block
-abbrev pub rollRefusals : List ℤ → List Refusal
-rollRefusals block = blockRefusals block ++ (rollOut block gives 9 ∷ [])
-
-abbrev pub moveRefusals : List ℤ → List ℤ → List ℤ → List ℤ → ℤ → ℤ → List Refusal
-moveRefusals block clearing own groups asset amount =
-    holdingRefusals block clearing ++ (moveNumbers clearing asset amount ++ moveJudged block clearing own groups (natAbs asset) amount)
-
--- the trade that an order's numbers name
-abbrev pub tradeOf : ℤ → ℤ → ℤ → ℤ → ℤ → Trade
-tradeOf asset date side quantity money =
-    record { asset = natAbs asset; date = natAbs date; side = natAbs side; quantity = quantity; money = money }
-
-abbrev pub orderRefusals : List ℤ → List ℤ → List ℤ → List ℤ → ℤ → ℤ → ℤ → ℤ → ℤ → List Refusal
-orderRefusals block clearing own groups asset date side quantity money =
-    holdingRefusals block clearing
-    ++ (orderNumbers clearing asset date side quantity money ++ orderJudged block clearing own groups (tradeOf asset date side quantity money))
+abbrev pub rollRefusals : ℕ → State → List Refusal
+rollRefusals i s = bookGate i s ++ (blockRefusals i s ++ (rollOut (blockAt s i) gives outOfBounds ∷ []))

@@ -1,29 +1,20 @@
--- Document 01, "report": the code, and the five figures of the account's block; zeros when refused.
+-- Document 01, "report": the code, and the five figures of the account; zeros when refused.
 -- Assumes nothing.
-use mathlib.Core.List.{List, _++_}
-use lib.IntN.{ℤ, pos, natAbs}
-use Rattle.whole.specs.Refusals.{Refusal, firstCode, leaves}
-use Rattle.book.specs.Block.{blockOf}
-use Rattle.figures.specs.Limit.{blockFigures}
-use Rattle.figures.specs.declared.Figures.{Figures}
-use Rattle.engine.specs.Refused.{tableGate, holdingRefusals}
-use Rattle.engine.specs.declared.Reported.{Reported}
+use Prim.Native.Nat.{ℕ}
+use lib.IntN.{pos}
+use Rattle.whole.specs.Refusals.{firstCode, leaves}
+use Rattle.rates.specs.Lent.{Tables}
+use Rattle.figures.specs.declared.limit.Figures.{Figures}
+use Rattle.engine.specs.State.{State}
+use Rattle.engine.specs.Refused.{reportRefusals, figuresAt}
+use Rattle.engine.specs.declared.reporting.Reported.{Reported}
 
 abbrev pub noFigures : Figures
 noFigures = record { valuation = pos 0; market = pos 0; interest = pos 0; discount = pos 0; limit = pos 0 }
 
--- of the account's block
-unfoldable pub blockReport : List ℤ → List ℤ → List ℤ → List ℤ → Reported
-blockReport block clearing own groups = record {
-  code = firstCode (holdingRefusals block clearing);
-  figures = leaves (firstCode (holdingRefusals block clearing)) (blockFigures block clearing own groups) noFigures;
-}
+-- figures that a code lets be seen
+abbrev pub answerOf : ℕ → Figures → Reported
+answerOf code found = record { code = code; figures = leaves code found noFigures }
 
-unfoldable pub reportOf : List ℤ → List ℤ → List ℤ → List ℤ → ℤ → Reported
-reportOf book clearing own groups account = record {
-  code = firstCode refusals;
-  figures = leaves (firstCode refusals) (blockFigures (blockOf book (natAbs account)) clearing own groups) noFigures;
-}
-  where
-    refusals : List Refusal
-    refusals = tableGate book clearing own groups account ++ holdingRefusals (blockOf book (natAbs account)) clearing
+unfoldable pub reportOf : Tables → ℕ → State → Reported
+reportOf tables i s = answerOf (firstCode (reportRefusals tables i s)) (figuresAt tables i s)

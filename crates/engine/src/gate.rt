@@ -1,97 +1,142 @@
 ghost use mathlib.Core.Path.{_≡_};
-ghost use mathlib.Core.Bool.{true};
-ghost use Prim.Native.Nat.{_<_};
-ghost use lib.IntN.{natAbs};
-ghost use lib.ListN.{length};
+ghost use mir.Syntax.{w64};
+ghost use mir.Val.{SFits};
 ghost use Rattle.whole.specs.Refusals.{firstCode};
-ghost use Rattle.engine.specs.Refused.{accountRight, assetRight, bookGate, tableGate, blockRefusals, holdingRefusals};
+ghost use Rattle.rates.specs.Lent.{lent, given};
+ghost use Rattle.book.specs.AtAccount.{InBook};
+ghost use Rattle.engine.specs.State.{state, found};
+ghost use Rattle.engine.specs.Refused.{placeOf, bookGate, tableGate, blockRefusals, holdingRefusals, reportRefusals, figuresAt, limitOf, enough};
+ghost use Rattle.engine.specs.Ranges.{Judgeable};
+use book::in_block;
+use whole::codes;
 
 // What the calls begin with: codes 1, 2, 3, then 6 and 4 of the account's block.
 
-const BOOK_LENGTH: usize = 4608;
+const LAST_ACCOUNT: i64 = 15;
+
+// An account's place in the book; past the last where there is no such account.
+pub(crate) fn place(account: i64) -> usize
+    ensures { λ r. ⌜ r ≡ placeOf account ⌝ }
+{
+    if !whole::lies_between(0, account, LAST_ACCOUNT) {
+        return in_block::ACCOUNTS;
+    }
+    account as usize
+}
 
 // Codes 1 and 3 of a call that is lent the book alone.
-pub(crate) fn book_gate(book: &[i64], account: i64) -> u8
-    ensures { λ r. ⌜ r ≡ firstCode (bookGate (now (book .entry)) account) ⌝ }
+pub(crate) fn book_gate(book: &[i64], i: usize) -> u8
+    ensures { λ r. ⌜ r ≡ firstCode (bookGate i (found book)) ⌝ }
 {
-    if book.len() != BOOK_LENGTH {
-        return 1;
+    if book.len() != in_block::BOOK_LENGTH {
+        return codes::WRONG_LENGTH;
     }
-    if !whole::lies_between(0, account, 15) {
-        return 3;
+    if in_block::ACCOUNTS <= i {
+        return codes::NO_ACCOUNT;
     }
-    0
+    codes::DONE
 }
 
 // Codes 1, 2 and 3 of a call that is lent tables and groups too.
-pub(crate) fn table_gate(
+fn table_gate(book: &[i64], clearing: &[i64], own: &[i64], groups: &[i64], i: usize) -> u8
+    ensures { λ r. ⌜ r ≡ firstCode (tableGate (given clearing own groups) i (found book)) ⌝ }
+{
+    if book.len() != in_block::BOOK_LENGTH {
+        return codes::WRONG_LENGTH;
+    }
+    let checked = rates::check_tables(clearing, own, groups);
+    let code = checked.code;
+    if code != codes::DONE {
+        return code;
+    }
+    if in_block::ACCOUNTS <= i {
+        return codes::NO_ACCOUNT;
+    }
+    codes::DONE
+}
+
+// Codes 6 and 4, where no tables are lent.
+pub(crate) fn block_code(book: &[i64], i: usize) -> u8
+    requires { ⌜ InBook (now book) i ⌝ }
+    ensures { λ r. ⌜ r ≡ firstCode (blockRefusals i (found book)) ⌝ }
+{
+    let block = book::block_of(book, i);
+    if !book::block_right(block) {
+        return codes::BROKEN_BLOCK;
+    }
+    if whole::number_is(block, in_block::ACCOUNT_KIND, 0) {
+        return codes::NOT_OPEN;
+    }
+    codes::DONE
+}
+
+// Codes 6 and 4, where tables are lent.
+fn holding_code(book: &[i64], clearing: &[i64], i: usize) -> u8
+    requires { ⌜ InBook (now book) i ⌝ }
+    ensures { λ r. ⌜ r ≡ firstCode (holdingRefusals (now (clearing .entry)) i (found book)) ⌝ }
+{
+    let block = book::block_of(book, i);
+    if !book::block_right(block) {
+        return codes::BROKEN_BLOCK;
+    }
+    if !book::holds_listed(block, clearing) {
+        return codes::BROKEN_BLOCK;
+    }
+    if whole::number_is(block, in_block::ACCOUNT_KIND, 0) {
+        return codes::NOT_OPEN;
+    }
+    codes::DONE
+}
+
+// The code of a report, with which a move and an order begin.
+pub(crate) fn report_code(
     book: &[i64],
     clearing: &[i64],
     own: &[i64],
     groups: &[i64],
-    account: i64,
+    i: usize,
 ) -> u8
-    ensures { λ r. ⌜ r ≡ firstCode (tableGate (now (book .entry)) (now (clearing .entry)) (now (own .entry)) (now (groups .entry)) account) ⌝ }
+    ensures { λ r. ⌜ r ≡ firstCode (reportRefusals (given clearing own groups) i (found book)) ⌝ }
 {
-    if book.len() != BOOK_LENGTH {
-        return 1;
-    }
-    let checked = rates::check_tables(clearing, own, groups);
-    let code = checked.code;
-    if code != 0 {
+    let code = table_gate(book, clearing, own, groups, i);
+    if code != codes::DONE {
         return code;
     }
-    if !whole::lies_between(0, account, 15) {
-        return 3;
-    }
-    0
+    holding_code(book, clearing, i)
 }
 
-// An account number that is right, as a place in the book.
-pub(crate) fn place(account: i64) -> usize
-    requires { ⌜ accountRight account ≡ true ⌝ }
-    ensures { λ r. ⌜ (r ≡ natAbs account) × (r < 16) ⌝ }
+// The figures of an account that may be judged.
+pub(crate) fn figures_at<'a>(
+    book: &[i64],
+    clearing: &'a [i64],
+    own: &'a [i64],
+    groups: &[i64],
+    i: usize,
+) -> figures::Figures
+    requires { ⌜ Judgeable (lent clearing own groups) i (state book) ⌝ }
+    ensures { λ r. ⌜ r ≡ figuresAt (given clearing own groups) i (found book) ⌝ }
 {
-    account as usize
+    figures::block_figures(book::block_of(book, i), clearing, own, groups)
 }
 
-// Codes 6 and 4, where no tables are lent.
-pub(crate) fn block_code(block: &[i64]) -> u8
-    requires { ⌜ length (now block) ≡ 288 ⌝ }
-    ensures { λ r. ⌜ r ≡ firstCode (blockRefusals (now (block .entry))) ⌝ }
+// The Single Limit of an account that may be judged.
+pub(crate) fn limit_at<'a>(
+    book: &[i64],
+    clearing: &'a [i64],
+    own: &'a [i64],
+    groups: &[i64],
+    i: usize,
+) -> i64
+    requires { ⌜ Judgeable (lent clearing own groups) i (state book) ⌝ }
+    ensures { λ r. ⌜ (r ≡ limitOf (given clearing own groups) i (found book)) × SFits w64 r ⌝ }
 {
-    if !book::block_right(block) {
-        return 6;
-    }
-    if whole::number_between(block, 0, 0, 0) {
-        return 4;
-    }
-    0
+    let figures = figures_at(book, clearing, own, groups, i);
+    figures.limit
 }
 
-// Codes 6 and 4, where tables are lent.
-pub(crate) fn holding_code(block: &[i64], clearing: &[i64]) -> u8
-    requires { ⌜ length (now block) ≡ 288 ⌝ }
-    ensures { λ r. ⌜ r ≡ firstCode (holdingRefusals (now (block .entry)) (now (clearing .entry))) ⌝ }
+// Whether a limit is enough: zero or more.
+pub(crate) fn is_enough(limit: i64) -> bool
+    ensures { λ r. ⌜ r ≡ enough limit ⌝ }
 {
-    if !book::block_right(block) {
-        return 6;
-    }
-    if !book::holds_listed(block, clearing) {
-        return 6;
-    }
-    if whole::number_between(block, 0, 0, 0) {
-        return 4;
-    }
-    0
-}
-
-// Whether an asset is one of the sixteen and listed.
-pub(crate) fn asset_right(clearing: &[i64], asset: i64) -> bool
-    ensures { λ r. ⌜ r ≡ assetRight (now (clearing .entry)) asset ⌝ }
-{
-    if !whole::lies_between(0, asset, 15) {
-        return false;
-    }
-    rates::is_listed(clearing, asset as usize)
+    0 <= limit
 }

@@ -1,98 +1,113 @@
 ghost use mathlib.Core.Path.{_≡_};
-ghost use mathlib.Core.Bool.{true, false};
-ghost use lib.IntN.{natAbs};
-ghost use lib.ListN.{length};
-ghost use Rattle.whole.specs.Bounds.{isZero, _within_};
-ghost use Rattle.whole.specs.Refusals.{firstCode, leaves};
-ghost use Rattle.rates.specs.Ranges.{TableRanges};
-ghost use Rattle.book.specs.Block.{accountKind};
-ghost use Rattle.book.specs.Changes.{moved};
-ghost use Rattle.book.specs.Rules.{goodBlock};
-ghost use Rattle.book.specs.Ranges.{MoveAsset};
-ghost use Rattle.engine.specs.Refused.{moveRight, moveNumbers, moveJudged, moveRefusals};
-ghost use Rattle.engine.specs.Calls.{Outcome, moveOutcome};
+ghost use Rattle.whole.specs.Refusals.{firstCode};
+ghost use Rattle.rates.specs.Lent.{lent, given};
+ghost use Rattle.engine.specs.State.{state, found};
+ghost use Rattle.engine.specs.Refused.{placeOf, moveChoiceRight, moveChecks, moveStands};
+ghost use Rattle.engine.specs.Ranges.{MoveStands};
+ghost use Rattle.engine.specs.Calls.{answer, outcomeOf, judgedMove, moving};
 use crate::gate;
+use whole::codes;
 
 // The move of collateral: a deposit is never asked for the limit; a withdrawal is taken back where the limit without it is negative.
 
-const RUBLES: i64 = 255;
-
-// Whether an amount may be moved: not 0, and within the bounds of the asset or of rubles.
-fn move_right(asset: i64, amount: i64) -> bool
-    ensures { λ r. ⌜ r ≡ moveRight asset amount ⌝ }
+// Whether an asset can be moved: rubles, or one of the sixteen that is listed.
+fn can_be_moved(clearing: &[i64], asset: i64) -> bool
+    ensures { λ r. ⌜ r ≡ moveChoiceRight (now (clearing .entry)) asset ⌝ }
 {
-    if whole::lies_between(0, amount, 0) {
+    if book::is_rubles(asset) {
+        return true;
+    }
+    if !book::asset_right(asset) {
         return false;
     }
-    if whole::lies_between(RUBLES, asset, RUBLES) {
-        return whole::lies_between(-100000000000000, amount, 100000000000000);
-    }
-    whole::lies_between(-1000000, amount, 1000000)
+    rates::is_listed(clearing, asset as usize)
 }
 
 // Codes 7 and 8.
-fn move_numbers(clearing: &[i64], asset: i64, amount: i64) -> u8
-    ensures { λ r. ⌜ r ≡ firstCode (moveNumbers (now (clearing .entry)) asset amount) ⌝ }
+fn move_checks(clearing: &[i64], asset: i64, amount: i64) -> u8
+    ensures { λ r. ⌜ r ≡ firstCode (moveChecks (now (clearing .entry)) asset amount) ⌝ }
 {
-    if !whole::lies_between(RUBLES, asset, RUBLES) {
-        if !gate::asset_right(clearing, asset) {
-            return 7;
-        }
+    if !can_be_moved(clearing, asset) {
+        return codes::WRONG_CHOICE;
     }
-    if !move_right(asset, amount) {
-        return 8;
+    if !book::move_amount_right(asset, amount) {
+        return codes::WRONG_AMOUNT;
     }
-    0
+    codes::DONE
 }
 
-// Codes 9 and 10 of a move in a block that may be judged.
-fn judge_move<'a>(
-    block: &mut [i64],
-    clearing: &'a [i64],
-    own: &'a [i64],
+// Every code of a move before 10, of an account's place.
+fn move_code(
+    book: &[i64],
+    clearing: &[i64],
+    own: &[i64],
     groups: &[i64],
-    asset: usize,
-    amount: i64,
-) -> u8
-    requires { ⌜ (length (now block) ≡ 288) × (goodBlock (now block) ≡ true) × (isZero (accountKind (now block)) ≡ false) × TableRanges (now clearing) (now own) (now groups) × MoveAsset asset × (amount within 100000000000000) ⌝ }
-    ensures { λ r. ⌜ (r ≡ firstCode (moveJudged (now (block .entry)) (now (clearing .entry)) (now (own .entry)) (now (groups .entry)) asset amount)) × (now (block .exit) ≡ leaves r (moved (now (block .entry)) asset amount) (now (block .entry))) ⌝ }
-{
-    let code = book::move_collateral(block, asset, amount);
-    if code != 0 {
-        return code;
-    }
-    if 0 <= amount {
-        return 0;
-    }
-    let after = figures::block_figures(&block[..], clearing, own, groups);
-    if after.limit < 0 {
-        book::take_back_move(block, asset, amount);
-        return 10;
-    }
-    0
-}
-
-// The move on the account's block.
-fn move_on<'a>(
-    block: &mut [i64],
-    clearing: &'a [i64],
-    own: &'a [i64],
-    groups: &[i64],
+    i: usize,
     asset: i64,
     amount: i64,
 ) -> u8
-    requires { ⌜ (length (now block) ≡ 288) × TableRanges (now clearing) (now own) (now groups) ⌝ }
-    ensures { λ r. ⌜ (r ≡ firstCode (moveRefusals (now (block .entry)) (now (clearing .entry)) (now (own .entry)) (now (groups .entry)) asset amount)) × (now (block .exit) ≡ leaves r (moved (now (block .entry)) (natAbs asset) amount) (now (block .entry))) ⌝ }
+    ensures { λ r. ⌜ r ≡ firstCode (moveStands (given clearing own groups) i asset amount (found book)) ⌝ }
 {
-    let code = gate::holding_code(&block[..], clearing);
-    if code != 0 {
+    let code = gate::report_code(book, clearing, own, groups, i);
+    if code != codes::DONE {
         return code;
     }
-    let wrong = move_numbers(clearing, asset, amount);
-    if wrong != 0 {
+    let wrong = move_checks(clearing, asset, amount);
+    if wrong != codes::DONE {
         return wrong;
     }
-    judge_move(block, clearing, own, groups, asset as usize, amount)
+    if !book::move_fits(book::block_of(book, i), asset as usize, amount) {
+        return codes::OUT_OF_BOUNDS;
+    }
+    codes::DONE
+}
+
+// Every code of a move before 10: whether it may be judged. Nothing is changed.
+pub fn move_stands(
+    book: &[i64],
+    clearing: &[i64],
+    own: &[i64],
+    groups: &[i64],
+    account: i64,
+    asset: i64,
+    amount: i64,
+) -> u8
+    ensures { λ r. ⌜ r ≡ firstCode (moveStands (given clearing own groups) (placeOf account) asset amount (found book)) ⌝ }
+{
+    move_code(
+        book,
+        clearing,
+        own,
+        groups,
+        gate::place(account),
+        asset,
+        amount,
+    )
+}
+
+// Make a move that stands, or answer 10.
+fn judge_move<'a>(
+    book: &mut [i64],
+    clearing: &'a [i64],
+    own: &'a [i64],
+    groups: &[i64],
+    i: usize,
+    asset: usize,
+    amount: i64,
+) -> u8
+    requires { ⌜ MoveStands (lent clearing own groups) i (state book) asset amount ⌝ }
+    ensures { λ r. ⌜ answer r book ≡ outcomeOf (judgedMove (given clearing own groups) i asset amount) (found book) ⌝ }
+{
+    book::move_in(book, i, asset, amount);
+    if 0 <= amount {
+        return codes::DONE;
+    }
+    let limit = gate::limit_at(&book[..], clearing, own, groups, i);
+    if gate::is_enough(limit) {
+        return codes::DONE;
+    }
+    book::move_in(book, i, asset, -amount);
+    codes::NEGATIVE_LIMIT
 }
 
 // Move collateral of an asset, or of rubles (255): a positive amount deposits, a negative one withdraws.
@@ -105,19 +120,12 @@ pub fn move_collateral<'a>(
     asset: i64,
     amount: i64,
 ) -> u8
-    ensures { λ r. ⌜ _≡_ {A = Outcome} (record { code = r; book = now (book .exit) }) (moveOutcome (now (book .entry)) account (now (clearing .entry)) (now (own .entry)) (now (groups .entry)) asset amount) ⌝ }
+    ensures { λ r. ⌜ answer r book ≡ outcomeOf (moving (given clearing own groups) (placeOf account) asset amount) (found book) ⌝ }
 {
-    let code = gate::table_gate(&book[..], clearing, own, groups, account);
-    if code != 0 {
+    let i = gate::place(account);
+    let code = move_code(&book[..], clearing, own, groups, i, asset, amount);
+    if code != codes::DONE {
         return code;
     }
-    let i = gate::place(account);
-    move_on(
-        &mut book[288 * i..288 * (i + 1)],
-        clearing,
-        own,
-        groups,
-        asset,
-        amount,
-    )
+    judge_move(book, clearing, own, groups, i, asset as usize, amount)
 }

@@ -1,10 +1,18 @@
 ghost use mathlib.Core.Path.{_≡_};
+ghost use Rattle.rates.specs.Lent.{given};
 ghost use Rattle.rates.specs.Tables.{checkCode, checkPlace};
-ghost use Rattle.engine.specs.Calls.{Outcome, openOutcome, moveOutcome, orderOutcome, rollOutcome};
-ghost use Rattle.engine_c.specs.Face.{Lent, lentReport};
+ghost use Rattle.engine.specs.State.{found};
+ghost use Rattle.engine.specs.Refused.{placeOf};
+ghost use Rattle.engine.specs.Calls.{answer, outcomeOf, opening, moving, ordering, rolling};
+ghost use Rattle.engine_c.specs.Face.{terms, filled, filledReport, covered};
+use book::Terms;
+use whole::codes;
 
-// The engine's calls for other languages: each passes its numbers and slices on and nothing else. A slice is a pointer and a length; a number
-// is itself. include/single_limit.h declares them.
+// The engine's calls for other languages: each passes its numbers and slices on. A slice is a pointer and a length; a number is itself.
+// include/single_limit.h declares them.
+
+// Numbers of a report.
+const FIGURES: usize = 5;
 
 // Check tables: the code; the place of the first broken number, with code 2, goes to `place`, else 0.
 #[no_mangle]
@@ -14,17 +22,31 @@ pub extern "C" fn single_limit_check_tables(
     groups: &[i64],
     place: &mut u64,
 ) -> u8
-    ensures { λ r. ⌜ (r ≡ checkCode (now (clearing .entry)) (now (own .entry)) (now (groups .entry))) × (now (place .exit) ≡ checkPlace (now (clearing .entry)) (now (own .entry)) (now (groups .entry))) ⌝ }
+    ensures { λ r. ⌜ (r ≡ checkCode (given clearing own groups)) × (now (place .exit) ≡ checkPlace (given clearing own groups)) ⌝ }
 {
     let checked = engine::check_tables(clearing, own, groups);
     *place = checked.place as u64;
     checked.code
 }
 
+// Whether the row in force of an asset keeps its rules and passes the cover test: 1, else 0.
+#[no_mangle]
+pub extern "C" fn single_limit_covers<'a>(clearing: &'a [i64], own: &'a [i64], asset: i64) -> u8
+    ensures { λ r. ⌜ r ≡ covered (now (clearing .entry)) (now (own .entry)) asset ⌝ }
+{
+    if !book::asset_right(asset) {
+        return 0;
+    }
+    if !rates::covers(rates::row_in_force(clearing, own, asset as usize)) {
+        return 0;
+    }
+    1
+}
+
 // Open an account.
 #[no_mangle]
 pub extern "C" fn single_limit_open(book: &mut [i64], account: i64, kind: i64) -> u8
-    ensures { λ r. ⌜ _≡_ {A = Outcome} (record { code = r; book = now (book .exit) }) (openOutcome (now (book .entry)) account kind) ⌝ }
+    ensures { λ r. ⌜ answer r book ≡ outcomeOf (opening (placeOf account) kind) (found book) ⌝ }
 {
     engine::open(book, account, kind)
 }
@@ -40,12 +62,12 @@ pub extern "C" fn single_limit_move<'a>(
     asset: i64,
     amount: i64,
 ) -> u8
-    ensures { λ r. ⌜ _≡_ {A = Outcome} (record { code = r; book = now (book .exit) }) (moveOutcome (now (book .entry)) account (now (clearing .entry)) (now (own .entry)) (now (groups .entry)) asset amount) ⌝ }
+    ensures { λ r. ⌜ answer r book ≡ outcomeOf (moving (given clearing own groups) (placeOf account) asset amount) (found book) ⌝ }
 {
     engine::move_collateral(book, clearing, own, groups, account, asset, amount)
 }
 
-// Order.
+// Order. Its numbers come one by one, as C passes them.
 #[no_mangle]
 pub extern "C" fn single_limit_order<'a>(
     book: &mut [i64],
@@ -59,26 +81,22 @@ pub extern "C" fn single_limit_order<'a>(
     quantity: i64,
     money: i64,
 ) -> u8
-    ensures { λ r. ⌜ _≡_ {A = Outcome} (record { code = r; book = now (book .exit) }) (orderOutcome (now (book .entry)) account (now (clearing .entry)) (now (own .entry)) (now (groups .entry)) asset date side quantity money) ⌝ }
+    ensures { λ r. ⌜ answer r book ≡ outcomeOf (ordering (given clearing own groups) (placeOf account) (terms asset date side quantity money)) (found book) ⌝ }
 {
-    engine::order(
-        book,
-        clearing,
-        own,
-        groups,
-        account,
+    let o = Terms {
         asset,
         date,
         side,
         quantity,
         money,
-    )
+    };
+    engine::order(book, clearing, own, groups, account, o)
 }
 
 // Roll an account.
 #[no_mangle]
 pub extern "C" fn single_limit_roll(book: &mut [i64], account: i64) -> u8
-    ensures { λ r. ⌜ _≡_ {A = Outcome} (record { code = r; book = now (book .exit) }) (rollOutcome (now (book .entry)) account) ⌝ }
+    ensures { λ r. ⌜ answer r book ≡ outcomeOf (rolling (placeOf account)) (found book) ⌝ }
 {
     engine::roll(book, account)
 }
@@ -93,10 +111,10 @@ pub extern "C" fn single_limit_report<'a>(
     account: i64,
     figures: &mut [i64],
 ) -> u8
-    ensures { λ r. ⌜ _≡_ {A = Lent} (record { code = r; figures = now (figures .exit) }) (lentReport (now (book .entry)) (now (clearing .entry)) (now (own .entry)) (now (groups .entry)) account (now (figures .entry))) ⌝ }
+    ensures { λ r. ⌜ filled r figures ≡ filledReport (given clearing own groups) (placeOf account) (found book) (now (figures .entry)) ⌝ }
 {
-    if figures.len() != 5 {
-        return 1;
+    if figures.len() != FIGURES {
+        return codes::WRONG_LENGTH;
     }
     let reported = engine::report(book, clearing, own, groups, account);
     let found = reported.figures;

@@ -11,9 +11,14 @@ use mir.Val.{SFits}
 use mir.Facts.{toZ-ofZ}
 use borrow.Author.Needs.{needs}
 use borrow.Author.Tests.{eq-eqb, ne-eqb}
+use Rattle.whole.specs.Refusals.{wrongLength}
+use Rattle.rates.specs.Lent.{lent}
+use Rattle.figures.specs.Limit.{five}
+use Rattle.engine.specs.State.{state}
+use Rattle.engine.specs.Refused.{placeOf}
 use Rattle.engine.specs.Report.{reportOf}
-use Rattle.engine.specs.declared.Reported.{Reported}
-use Rattle.engine_c.specs.Face.{Lent, five, lentReport}
+use Rattle.engine.specs.declared.reporting.Reported.{Reported}
+use Rattle.engine_c.specs.Face.{Filled, filledReport}
 use Rattle.engine_c.proofs.single_limit_report.Statement.{statement}
 use Rattle.engine_c.proofs.single_limit_report.Tie as tie
 
@@ -28,7 +33,7 @@ filled (x ∷ y ∷ z ∷ u ∷ v ∷ []) l a b c d e = refl
 filled (x ∷ y ∷ z ∷ u ∷ v ∷ w ∷ xs) l a b c d e = absurd (omega arith)
 
 returns : tie.Need-returns
-unfolding lentReport
+unfolding filledReport
 returns c = rw (ne-eqb _ 5 (c .if1 .taken)) refl
 
 slice-set-from-limit : tie.Need-slice-set-from-limit
@@ -44,22 +49,23 @@ fits : (c : tie.After-struct-told5) → let f = reported c .figures in
 fits c = search needs
 
 answer : (r report : Reported) (figures out : List ℤ) → r ≡ report → length figures ≡ 5 → out ≡ five (r .figures)
-    → _≡_ {A = Lent} (record { code = r .code; figures = out })
-    (record { code = cond (eqb (length figures) 5) (report .code) 1; figures = cond (eqb (length figures) 5) (five (report .figures)) figures })
+    → _≡_ {A = Filled} (record { code = r .code; figures = out })
+    (record { code = cond (eqb (length figures) 5) (report .code) wrongLength; figures = cond (eqb (length figures) 5) (five (report .figures)) figures })
 answer r report figures out e l q =
     let p = q ∙ ap (λ (r : Reported). five (r .figures)) e in
     rw (eq-eqb (length figures) 5 l) (λ i. record { code = e i .code; figures = p i })
 
 returns-2 : tie.Need-returns-2
-unfolding lentReport
+unfolding filledReport
 returns-2 c =
     let s = c .before .before .before .before .before .before .before .before in
     let l = c .before .before .before .before .before .before .before .if1 .left in
     let a = s .args in
     let f = fits c in
+    let tables = lent (a .clearing) (a .own) (a .groups) in
     let r = c .before .before .before .before .before .before .report .ensures in
-    answer (reported c) (reportOf (a .book .now) (a .clearing .now) (a .own .now) (a .groups .now) (a .account)) (a .figures .now) _
-    (r ∙ ap (reportOf (a .book .now) (a .clearing .now) (a .own .now) (a .groups .now)) (toZ-ofZ (s .fits .account))) l
+    answer (reported c) (reportOf tables (placeOf (a .account)) (state (a .book))) (a .figures .now) _
+    (r ∙ ap (λ (z : ℤ). reportOf tables (placeOf z) (state (a .book))) (toZ-ofZ (s .fits .account))) l
     (filled (a .figures .now) l _ _ _ _ _ ∙ simp (toZ-ofZ (f .0), toZ-ofZ (f .1), toZ-ofZ (f .2), toZ-ofZ (f .3), toZ-ofZ (f .4)))
 
 pub single-limit-report-spec : {M : Type 1} → statement M

@@ -1,76 +1,69 @@
--- `moving::move_collateral` meets its contract: the gate refuses, or the block answers. Assumes nothing.
-use mathlib.Core.Path.{_≡_, sym, ap, _∙_}
-use mathlib.Core.List.{List}
-use Prim.Native.Nat.{_<_}
-use lib.IntN.{ℤ, natAbs}
+-- `moving::move_collateral` meets its contract: a code before 10 turns it away, or the move is judged. Assumes nothing.
+use mathlib.Core.Path.{_≡_, refl, sym, ap, _∙_}
+use Prim.Native.Nat.{ℕ}
+use native.Mathlib.Omega.{arith}
+use lib.IntN.{natAbs}
 use mir.Facts.{toZ-ofZ}
 use borrow.Author.Needs.{needs}
-use Rattle.whole.specs.Refusals.{Refusal, firstCode}
-use Rattle.book.specs.Changes.{moved}
-use Rattle.engine.specs.Refused.{tableGate, moveRefusals}
-use Rattle.engine.specs.Calls.{moveOutcome}
-use Rattle.engine.proofs.Gates.{TablePassed, table-passed}
-use Rattle.engine.proofs.Lent.{lent-length, turned-away, answered}
+use Rattle.whole.specs.Refusals.{firstCode}
+use Rattle.rates.specs.Lent.{Tables, lent}
+use Rattle.engine.specs.State.{state}
+use Rattle.engine.specs.Refused.{placeOf, moveStands}
+use Rattle.engine.specs.Calls.{Outcome, outcomeOf, judgedMove, moving}
+use Rattle.engine.proofs.Outcomes.{turned-away, let-through}
+use Rattle.whole.proofs.Parameters.{index}
+use Rattle.engine.proofs.Passed.{MoveStood, move-stood}
 use Rattle.engine.proofs.moving.move_collateral.Statement.{statement}
 use Rattle.engine.proofs.moving.move_collateral.Tie as tie
 
--- the gate's refusals, those past it, and the change
-abbrev gate : tie.Start → List Refusal
-gate s = let a = s .args in tableGate (a .book .now) (a .clearing .now) (a .own .now) (a .groups .now) (a .account)
+abbrev tables : tie.Start → Tables
+tables s = lent (s .args .clearing) (s .args .own) (s .args .groups)
 
-abbrev past : tie.Start → List ℤ → List Refusal
-past s b = let a = s .args in moveRefusals b (a .clearing .now) (a .own .now) (a .groups .now) (a .asset) (a .amount)
+-- what is answered for the place is answered for the account
+placed : (c : tie.After-place) {q : Outcome} → let s = c .before in let a = s .args in
+    q ≡ outcomeOf (moving (tables s) (c .place .result) (a .asset) (a .amount)) (state (a .book))
+    → q ≡ outcomeOf (moving (tables s) (placeOf (a .account)) (a .asset) (a .amount)) (state (a .book))
+placed c e = let s = c .before in let a = s .args in
+    e ∙ ap (λ (i : ℕ). outcomeOf (moving (tables s) i (a .asset) (a .amount)) (state (a .book))) (c .place .ensures ∙ ap placeOf (toZ-ofZ (s .fits .account)))
 
-abbrev change : tie.Start → List ℤ → List ℤ
-change s b = let a = s .args in moved b (natAbs (a .asset)) (a .amount)
+code-is : (c : tie.After-move-code) → let s = c .before .before .before in let a = s .args in
+    c .move-code .result ≡ firstCode (moveStands (tables s) (c .before .before .place .result) (a .asset) (a .amount) (state (a .book)))
+code-is c = let f = c .before .before .before .fits in simp (toZ-ofZ (f .asset), toZ-ofZ (f .amount)) at (c .move-code .ensures)
 
-gate-is : (c : tie.After-table-gate) → c .table-gate .result ≡ firstCode (gate (c .before .before))
-gate-is c = simp (toZ-ofZ (c .before .before .fits .account)) at (c .table-gate .ensures)
+code-0 : (c : tie.Else1) → let s = c .before .before .before .before in let a = s .args in firstCode (moveStands (tables s) (c .before .before .before .place .result) (a .asset) (a .amount) (state (a .book))) ≡ 0
+code-0 c = sym (code-is (c .before)) ∙ c .if1 .left
 
-gate-passed : (c : tie.Else1) → firstCode (gate (c .before .before .before)) ≡ 0
-gate-passed c = sym (gate-is (c .before)) ∙ c .if1 .left
-
-passed : (c : tie.Else1) → let a = c .before .before .before .args in TablePassed (a .book .now) (a .clearing .now) (a .own .now) (a .groups .now) (a .account)
-passed c = let a = c .before .before .before .args in table-passed (a .book .now) (a .clearing .now) (a .own .now) (a .groups .now) (a .account) (gate-passed c)
-
-placed : (c : tie.After-place) → (c .place .result ≡ natAbs (c .before .before .before .before .args .account)) × (c .place .result < 16)
-placed c = (c .place .ensures .0 ∙ ap natAbs (toZ-ofZ (c .before .before .before .before .fits .account)), c .place .ensures .1)
+stood : (c : tie.Else1) → let s = c .before .before .before .before in let a = s .args in MoveStood (tables s) (c .before .before .before .place .result) (a .asset) (a .amount) (state (a .book))
+stood c = move-stood _ _ _ _ _ (code-0 c)
 
 returns : tie.Need-returns
-unfolding moveOutcome
-returns c = let s = c .before .before .before in
-    turned-away (s .args .book .now) (s .args .account) (gate s) (past s) (change s) _ (gate-is (c .before)) (c .if1 .taken)
+unfolding moving
+returns c = let s = c .before .before .before .before in let a = s .args in let i = c .before .before .before .place .result in
+    placed (c .before .before .before) (turned-away (moveStands (tables s) i (a .asset) (a .amount)) (judgedMove (tables s) i (natAbs (a .asset)) (a .amount)) (state (a .book))
+    (code-is (c .before)) (c .if1 .taken) refl)
 
-place-requires : tie.Need-place-requires
-place-requires c κs = rw (toZ-ofZ (c .before .before .before .fits .account)) (passed c .account-right)
+cast-judge-move : tie.Need-cast-judge-move
+cast-judge-move c = index 255 (omega arith) (c .before .before .before .before .before .fits .asset) (stood (c .before) .asset-in)
 
-part-move-on-end : tie.Need-part-move-on-end
-part-move-on-end c = let l = passed (c .before) .long in search needs
-
-move-on-requires : tie.Need-move-on-requires
-move-on-requires c κs = let p = c .before in (lent-length _ _ (passed (p .before) .long) (p .place .ensures .1), passed (p .before) .tables)
+judge-move-requires : tie.Need-judge-move-requires
+judge-move-requires c κs = let f = c .before .before .before .before .before .fits in let q = stood (c .before) in
+    rw (toZ-ofZ (f .asset), toZ-ofZ (f .amount)) (q .stands)
 
 returns-2 : tie.Need-returns-2
-unfolding moveOutcome
-returns-2 c = let p = c .before .before .before in let s = p .before .before .before .before in let f = s .fits in
-    answered (s .args .book .now) (s .args .account) (gate s) (past s) (change s) tt (gate-passed (p .before)) (passed (p .before) .long) _ (placed p) _ _
-    (simp (toZ-ofZ (f .asset), toZ-ofZ (f .amount)) at (c .before .move-on .ensures))
+unfolding moving
+returns-2 c = let s = c .before .before .before .before .before .before .before in let a = s .args in let f = s .fits in let i = c .before .before .before .before .before .before .place .result in
+    placed (c .before .before .before .before .before .before) ((simp (toZ-ofZ (f .asset), toZ-ofZ (f .amount)) at (c .before .judge-move .ensures))
+    ∙ let-through (moveStands (tables s) i (a .asset) (a .amount)) (judgedMove (tables s) i (natAbs (a .asset)) (a .amount)) (state (a .book)) tt (code-0 (c .before .before .before)))
 
 pub move-collateral-spec : {M : Type 1} → statement M
 move-collateral-spec =
     tie.close
     (tie.spec
     (λ c κs. search needs)
+    (λ c κs. search needs)
     (λ c. search needs)
     returns
-    place-requires
-    (λ c. search needs)
-    (λ c. search needs)
-    (λ c. search needs)
-    (λ c. search needs)
-    (λ c. search needs)
-    (λ c. search needs)
-    part-move-on-end
-    move-on-requires
+    cast-judge-move
+    judge-move-requires
     (λ c. search needs)
     returns-2)

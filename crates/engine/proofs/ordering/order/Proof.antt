@@ -1,76 +1,65 @@
--- `ordering::order` meets its contract: the gate refuses, or the block answers. Assumes nothing.
-use mathlib.Core.Path.{_≡_, sym, ap, _∙_}
-use mathlib.Core.List.{List}
-use Prim.Native.Nat.{_<_}
-use lib.IntN.{ℤ, natAbs}
+-- `ordering::order` meets its contract: a code before 10 turns it away, or the trade is judged. Assumes nothing.
+use mathlib.Core.Path.{_≡_, refl, sym, ap, _∙_, subst}
+use Prim.Native.Nat.{ℕ}
 use mir.Facts.{toZ-ofZ}
 use borrow.Author.Needs.{needs}
-use Rattle.whole.specs.Refusals.{Refusal, firstCode}
-use Rattle.book.specs.Changes.{traded}
-use Rattle.engine.specs.Refused.{tableGate, orderRefusals, tradeOf}
-use Rattle.engine.specs.Calls.{orderOutcome}
-use Rattle.engine.proofs.Gates.{TablePassed, table-passed}
-use Rattle.engine.proofs.Lent.{lent-length, turned-away, answered}
+use Rattle.whole.specs.Refusals.{firstCode}
+use Rattle.book.specs.Choices.{tradeOf}
+use Rattle.book.specs.declared.changes.Trade.{Trade}
+use Rattle.rates.specs.Lent.{Tables, lent}
+use Rattle.engine.specs.State.{state}
+use Rattle.engine.specs.Refused.{placeOf, orderStands}
+use Rattle.engine.specs.Calls.{Outcome, outcomeOf, judgedTrade, ordering}
+use Rattle.engine.specs.Ranges.{TradeStands}
+use Rattle.engine.proofs.Outcomes.{turned-away, let-through}
+use Rattle.engine.proofs.Passed.{OrderStood, order-stood}
 use Rattle.engine.proofs.ordering.order.Statement.{statement}
 use Rattle.engine.proofs.ordering.order.Tie as tie
 
--- the gate's refusals, those past it, and the change
-abbrev gate : tie.Start → List Refusal
-gate s = let a = s .args in tableGate (a .book .now) (a .clearing .now) (a .own .now) (a .groups .now) (a .account)
+abbrev tables : tie.Start → Tables
+tables s = lent (s .args .clearing) (s .args .own) (s .args .groups)
 
-abbrev past : tie.Start → List ℤ → List Refusal
-past s b = let a = s .args in orderRefusals b (a .clearing .now) (a .own .now) (a .groups .now) (a .asset) (a .date) (a .side) (a .quantity) (a .money)
+-- what is answered for the place is answered for the account
+placed : (c : tie.After-place) {q : Outcome} → let s = c .before in q ≡ outcomeOf (ordering (tables s) (c .place .result) (s .args .o)) (state (s .args .book))
+    → q ≡ outcomeOf (ordering (tables s) (placeOf (s .args .account)) (s .args .o)) (state (s .args .book))
+placed c e = let s = c .before in
+    e ∙ ap (λ (i : ℕ). outcomeOf (ordering (tables s) i (s .args .o)) (state (s .args .book))) (c .place .ensures ∙ ap placeOf (toZ-ofZ (s .fits .account)))
 
-abbrev change : tie.Start → List ℤ → List ℤ
-change s b = let a = s .args in traded b (tradeOf (a .asset) (a .date) (a .side) (a .quantity) (a .money))
+code-0 : (c : tie.Else1) → let s = c .before .before .before .before in firstCode (orderStands (tables s) (c .before .before .before .place .result) (s .args .o) (state (s .args .book))) ≡ 0
+code-0 c = sym (c .before .order-code .ensures) ∙ c .if1 .left
 
-gate-is : (c : tie.After-table-gate) → c .table-gate .result ≡ firstCode (gate (c .before .before))
-gate-is c = simp (toZ-ofZ (c .before .before .fits .account)) at (c .table-gate .ensures)
-
-gate-passed : (c : tie.Else1) → firstCode (gate (c .before .before .before)) ≡ 0
-gate-passed c = sym (gate-is (c .before)) ∙ c .if1 .left
-
-passed : (c : tie.Else1) → let a = c .before .before .before .args in TablePassed (a .book .now) (a .clearing .now) (a .own .now) (a .groups .now) (a .account)
-passed c = let a = c .before .before .before .args in table-passed (a .book .now) (a .clearing .now) (a .own .now) (a .groups .now) (a .account) (gate-passed c)
-
-placed : (c : tie.After-place) → (c .place .result ≡ natAbs (c .before .before .before .before .args .account)) × (c .place .result < 16)
-placed c = (c .place .ensures .0 ∙ ap natAbs (toZ-ofZ (c .before .before .before .before .fits .account)), c .place .ensures .1)
+stood : (c : tie.Else1) → let s = c .before .before .before .before in OrderStood (tables s) (c .before .before .before .place .result) (s .args .o) (state (s .args .book))
+stood c = order-stood _ _ _ _ (code-0 c)
 
 returns : tie.Need-returns
-unfolding orderOutcome
-returns c = let s = c .before .before .before in
-    turned-away (s .args .book .now) (s .args .account) (gate s) (past s) (change s) _ (gate-is (c .before)) (c .if1 .taken)
+unfolding ordering
+returns c = let s = c .before .before .before .before in let a = s .args in let i = c .before .before .before .place .result in
+    placed (c .before .before .before) (turned-away (orderStands (tables s) i (a .o)) (judgedTrade (tables s) i (tradeOf (a .o))) (state (a .book))
+    (c .before .order-code .ensures) (c .if1 .taken) refl)
 
-place-requires : tie.Need-place-requires
-place-requires c κs = rw (toZ-ofZ (c .before .before .before .fits .account)) (passed c .account-right)
+trade-of-requires : tie.Need-trade-of-requires
+trade-of-requires c κs = stood (c .before) .terms
 
-part-order-on-end : tie.Need-part-order-on-end
-part-order-on-end c = let l = passed (c .before) .long in search needs
-
-order-on-requires : tie.Need-order-on-requires
-order-on-requires c κs = let p = c .before in (lent-length _ _ (passed (p .before) .long) (p .place .ensures .1), passed (p .before) .tables)
+judge-order-requires : tie.Need-judge-order-requires
+judge-order-requires c κs = let s = c .before .before .before .before .before .before in let q = stood (c .before .before) in
+    subst (TradeStands (tables s) (c .before .before .before .before .before .place .result) (state (s .args .book))) (sym (c .trade-of .ensures)) (q .stands)
 
 returns-2 : tie.Need-returns-2
-unfolding orderOutcome
-returns-2 c = let p = c .before .before .before in let s = p .before .before .before .before in let f = s .fits in
-    answered (s .args .book .now) (s .args .account) (gate s) (past s) (change s) tt (gate-passed (p .before)) (passed (p .before) .long) _ (placed p) _ _
-    (simp (toZ-ofZ (f .asset), toZ-ofZ (f .date), toZ-ofZ (f .side), toZ-ofZ (f .quantity), toZ-ofZ (f .money)) at (c .before .order-on .ensures))
+unfolding ordering
+returns-2 c = let s = c .before .before .before .before .before .before .before .before in let a = s .args in let i = c .before .before .before .before .before .before .before .place .result in
+    placed (c .before .before .before .before .before .before .before) (c .before .judge-order .ensures
+    ∙ ap (λ (t : Trade). outcomeOf (judgedTrade (tables s) i t) (state (a .book))) (c .before .before .trade-of .ensures)
+    ∙ let-through (orderStands (tables s) i (a .o)) (judgedTrade (tables s) i (tradeOf (a .o))) (state (a .book)) tt (code-0 (c .before .before .before .before)))
 
 pub order-spec : {M : Type 1} → statement M
 order-spec =
     tie.close
     (tie.spec
     (λ c κs. search needs)
+    (λ c κs. search needs)
     (λ c. search needs)
     returns
-    place-requires
-    (λ c. search needs)
-    (λ c. search needs)
-    (λ c. search needs)
-    (λ c. search needs)
-    (λ c. search needs)
-    (λ c. search needs)
-    part-order-on-end
-    order-on-requires
+    trade-of-requires
+    judge-order-requires
     (λ c. search needs)
     returns-2)

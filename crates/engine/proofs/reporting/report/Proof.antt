@@ -1,72 +1,41 @@
--- `reporting::report` meets its contract: the gate refuses, or the block is reported. Assumes nothing.
+-- `reporting::report` meets its contract: a code and zeros, or the account's figures. Assumes nothing.
 use mathlib.Core.Path.{_≡_, sym, ap, _∙_}
-use mathlib.Core.List.{List}
-use Prim.Native.Nat.{_<_}
-use lib.IntN.{natAbs}
+use Prim.Native.Nat.{ℕ}
 use mir.Facts.{toZ-ofZ}
 use borrow.Author.Needs.{needs}
-use Rattle.whole.specs.Refusals.{Refusal, firstCode}
-use Rattle.figures.specs.Limit.{blockFigures}
-use Rattle.engine.specs.Refused.{tableGate, holdingRefusals}
-use Rattle.engine.specs.Report.{blockReport, reportOf}
-use Rattle.engine.proofs.Gates.{TablePassed, table-passed}
-use Rattle.engine.proofs.Lent.{lent-length}
-use Rattle.engine.proofs.Reports.{not-reported, reported}
+use Rattle.rates.specs.Lent.{Tables, lent}
+use Rattle.engine.specs.State.{state}
+use Rattle.engine.specs.Refused.{placeOf, figuresAt}
+use Rattle.engine.specs.Report.{reportOf}
+use Rattle.engine.specs.declared.reporting.Reported.{Reported}
+use Rattle.engine.proofs.Gates.{report-passed}
+use Rattle.engine.proofs.Reports.{no-figures, with-figures}
 use Rattle.engine.proofs.reporting.report.Statement.{statement}
 use Rattle.engine.proofs.reporting.report.Tie as tie
 
--- the gate's refusals
-abbrev gate : tie.Start → List Refusal
-gate s = let a = s .args in tableGate (a .book .now) (a .clearing .now) (a .own .now) (a .groups .now) (a .account)
+abbrev tables : tie.Start → Tables
+tables s = lent (s .args .clearing) (s .args .own) (s .args .groups)
 
-gate-is : (c : tie.After-table-gate) → c .table-gate .result ≡ firstCode (gate (c .before))
-gate-is c = simp (toZ-ofZ (c .before .fits .account)) at (c .table-gate .ensures)
-
-gate-passed : (c : tie.Else1) → firstCode (gate (c .before .before)) ≡ 0
-gate-passed c = sym (gate-is (c .before)) ∙ c .if1 .left
-
-passed : (c : tie.Else1) → let a = c .before .before .args in TablePassed (a .book .now) (a .clearing .now) (a .own .now) (a .groups .now) (a .account)
-passed c = let a = c .before .before .args in table-passed (a .book .now) (a .clearing .now) (a .own .now) (a .groups .now) (a .account) (gate-passed c)
-
-placed : (c : tie.After-place) → (c .place .result ≡ natAbs (c .before .before .before .args .account)) × (c .place .result < 16)
-placed c = (c .place .ensures .0 ∙ ap natAbs (toZ-ofZ (c .before .before .before .fits .account)), c .place .ensures .1)
+-- what is reported for the place is reported for the account
+placed : (c : tie.After-place) {r : Reported} → let s = c .before in r ≡ reportOf (tables s) (c .place .result) (state (s .args .book))
+    → r ≡ reportOf (tables s) (placeOf (s .args .account)) (state (s .args .book))
+placed c e = let s = c .before in
+    e ∙ ap (λ (i : ℕ). reportOf (tables s) i (state (s .args .book))) (c .place .ensures ∙ ap placeOf (toZ-ofZ (s .fits .account)))
 
 returns : tie.Need-returns
 unfolding reportOf
-returns c = let s = c .before .before .before in let a = s .args in
-    c .refused .ensures
-    ∙ not-reported (a .book .now) (a .account) (gate s) (λ b. holdingRefusals b (a .clearing .now))
-    (λ b. blockFigures b (a .clearing .now) (a .own .now) (a .groups .now)) _ (gate-is (c .before .before)) (c .before .if1 .taken)
+returns c = let s = c .before .before .before .before in
+    placed (c .before .before .before) (c .refused .ensures
+    ∙ no-figures (figuresAt (tables s) (c .before .before .before .place .result) (state (s .args .book))) (c .before .before .report-code .ensures) (c .before .if1 .taken))
 
-place-requires : tie.Need-place-requires
-place-requires c κs = rw (toZ-ofZ (c .before .before .fits .account)) (passed c .account-right)
-
-part-report-on-end : tie.Need-part-report-on-end
-part-report-on-end c = let l = passed (c .before) .long in search needs
-
-report-on-requires : tie.Need-report-on-requires
-report-on-requires c κs = let p = c .before in (lent-length _ _ (passed (p .before) .long) (p .place .ensures .1), passed (p .before) .tables)
+figures-at-requires : tie.Need-figures-at-requires
+figures-at-requires c κs = report-passed _ _ _ (sym (c .before .report-code .ensures) ∙ c .if1 .left) .judgeable
 
 returns-2 : tie.Need-returns-2
-unfolding reportOf blockReport
-returns-2 c = let p = c .before .before in let s = p .before .before .before in let a = s .args in
-    reported (a .book .now) (a .account) (gate s) (λ b. holdingRefusals b (a .clearing .now))
-    (λ b. blockFigures b (a .clearing .now) (a .own .now) (a .groups .now)) tt (gate-passed (p .before)) (p .place .result) (placed p .0) _ (c .report-on .ensures)
+unfolding reportOf
+returns-2 c = placed (c .before .before .before) (with-figures (sym (c .before .before .report-code .ensures) ∙ c .before .if1 .left) (c .figures-at .ensures))
 
 pub report-spec : {M : Type 1} → statement M
 report-spec =
     tie.close
-    (tie.spec
-    (λ c κs. search needs)
-    (λ c κs. search needs)
-    returns
-    place-requires
-    (λ c. search needs)
-    (λ c. search needs)
-    (λ c. search needs)
-    (λ c. search needs)
-    (λ c. search needs)
-    (λ c. search needs)
-    part-report-on-end
-    report-on-requires
-    returns-2)
+    (tie.spec (λ c κs. search needs) (λ c κs. search needs) (λ c κs. search needs) returns figures-at-requires returns-2)
