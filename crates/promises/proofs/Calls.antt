@@ -1,175 +1,156 @@
--- What a reader wants to know of every call that writes: a refusal leaves the book as it was; other accounts' blocks stay; the code, and the account's
--- block afterwards, depend on the account's own block, the lengths, the tables and the numbers alone; two outcomes that a contract allows coincide.
+-- What a reader wants to know of every call that writes (specs/EveryCall), proved once of any call that sees only what it may, is let through only where
+-- its account is there, and keeps its block's length; then of each call.
 -- Assumes nothing.
-use mathlib.Core.Path.{_≡_, refl, sym, ap₂, _∙_}
-use mathlib.Core.Bool.{Bool, true, false, cond}
-use mathlib.Core.List.{List, _++_}
+use mathlib.Core.Path.{_≡_, refl, sym, ap, ap₂, _∙_}
+use mathlib.Core.Bool.{Bool, true, false, cond, not, _&&_}
+use mathlib.Core.List.{List, [], _∷_, _++_}
 use Prim.Native.Nat.{ℕ, _<_}
-use native.Mathlib.Omega.{arith}
-use lib.Dec.{eqb}
-use lib.IntN.{ℤ, natAbs}
+use lib.Dec.{T, eqb}
+use lib.IntN.{ℤ, pos, natAbs}
 use lib.ListN.{length, length-set}
-use borrow.Author.Tests.{eqb-true}
-use Rattle.whole.specs.Refusals.{Refusal, firstCode, leaves}
-use Rattle.whole.proofs.Refusals.{first-zero, kept}
-use Rattle.book.specs.Block.{blockOf, putBlock}
+use lib.Signed.{ltZ}
+use borrow.Author.Tests.{eqb-true, eqb-false}
+use Rattle.whole.specs.Refusals.{Refusal, _gives_, firstCode, leaves, negativeLimit}
+use Rattle.whole.proofs.Refusals.{coded, refused, goes-on, first-zero, kept}
+use Rattle.book.specs.Choices.{tradeOf}
 use Rattle.book.specs.Changes.{opened, moved, traded}
-use Rattle.book.proofs.Blocks.{block-length, block-put, block-put-other}
-use Rattle.engine.specs.Refused.{bookGate, tableGate, openRefusals, rollRefusals, moveRefusals, orderRefusals, tradeOf}
-use Rattle.engine.specs.Calls.{Outcome, outcome, openOutcome, rollOutcome, moveOutcome, orderOutcome}
-use Rattle.engine.specs.Report.{reportOf}
-use Rattle.engine.proofs.Gates.{book-passed, table-passed, account-below}
-use Rattle.engine.proofs.Parameters.{index-is}
 use Rattle.book.specs.Roll.{rolled}
+use Rattle.book.specs.AtAccount.{InBook}
+use Rattle.book.proofs.AtAccount.{block-long, at-block, at-others}
 use Rattle.book.proofs.Moved.{moved-length}
 use Rattle.book.proofs.Rolled.{rolled-length}
 use Rattle.book.proofs.Traded.{traded-length}
+use Rattle.figures.specs.Limit.{blockFigures}
+use Rattle.rates.specs.Lent.{Tables}
+use Rattle.engine.specs.State.{State, blockAt, changedAt}
+use Rattle.engine.specs.Refused.{openRefusals, rollRefusals, moveStands, moveJudged, orderStands, orderJudged, limitOf, enough, admitted}
+use Rattle.engine.specs.Calls.{Call, codeOf, outcomeOf, changing, _before_, opening, rolling, moving, ordering, judgedMove, judgedTrade}
+use Rattle.engine.specs.Report.{reportOf}
+use Rattle.book.specs.declared.terms.Terms.{Terms}
+use Rattle.engine.proofs.Passed.{open-passed, roll-passed, move-stood, order-stood}
+use Rattle.promises.specs.EveryCall.{Alike, Promised, EveryCall, SameReport}
 
--- two answers that one contract allows
-pub one-outcome : {A : Type 0} {r s answer : A} → r ≡ answer → s ≡ answer → r ≡ s
-one-outcome p q = p ∙ sym q
+pub record Lawful (i : ℕ) (call : Call) : Type 0 where
+  pub sees : (s other : State) → Alike i s other → codeOf call s ≡ codeOf call other
+  pub stays : (s : State) → codeOf call s ≡ 0 → (j : ℕ) → j < 16 → (j ≡ i → ⊥) → blockAt (call .change s) j ≡ blockAt s j
+  pub own-after : (s other : State) → Alike i s other → codeOf call s ≡ 0 → blockAt (call .change s) i ≡ blockAt (call .change other) i
 
--- a call: its account, the refusals of its gate, and, of any block, the refusals past the gate and the change
-pub record Call : Type 0 where
-  pub account : ℤ
-  pub gate : List ℤ → List Refusal
-  pub past : List ℤ → List Refusal
-  pub change : List ℤ → List ℤ
+module _ (i : ℕ) (call : Call) (lawful : Lawful i call) where
+  others : (s : State) (j : ℕ) → j < 16 → (j ≡ i → ⊥) → blockAt (outcomeOf call s .state) j ≡ blockAt s j
+  unfolding outcomeOf leaves
+  others s j l apart = by (eqb (codeOf call s) 0) refl
+    where
+      by : (b : Bool) → eqb (codeOf call s) 0 ≡ b → blockAt (cond b (call .change s) s) j ≡ blockAt s j
+      by true e = lawful .stays s (eqb-true _ _ e) j l apart
+      by false e = refl
 
--- a gate that looks at nothing of the book but its length, and lets through only an account of a whole book; a change that keeps a block's length
-pub record Lawful (call : Call) : Type 0 where
-  pub by-length : (book other : List ℤ) → length book ≡ length other → call .gate book ≡ call .gate other
-  pub lets-through : (book : List ℤ) → firstCode (call .gate book) ≡ 0 → (length book ≡ 4608) × (natAbs (call .account) < 16)
-  pub keeps-length : (block : List ℤ) → length block ≡ 288 → length (call .change block) ≡ 288
+  same-after : (s other : State) → Alike i s other → blockAt (outcomeOf call s .state) i ≡ blockAt (outcomeOf call other .state) i
+  unfolding outcomeOf leaves
+  same-after s other a = rw (sym (lawful .sees s other a)) (by (eqb (codeOf call s) 0) refl)
+    where
+      by : (b : Bool) → eqb (codeOf call s) 0 ≡ b → blockAt (cond b (call .change s) s) i ≡ blockAt (cond b (call .change other) other) i
+      by true e = lawful .own-after s other a (eqb-true _ _ e)
+      by false e = a .same-block
 
-abbrev pub ownBlock : Call → List ℤ → List ℤ
-ownBlock call book = blockOf book (natAbs (call .account))
+  keeps : (s : State) → (outcomeOf call s .code ≡ 0 → ⊥) → outcomeOf call s .state ≡ s
+  unfolding outcomeOf
+  keeps s h = sym (kept (codeOf call s) (call .change s) s h)
 
-abbrev pub outcomeOf : Call → List ℤ → Outcome
-outcomeOf call book = outcome (call .gate book ++ call .past (ownBlock call book)) book (call .account) (call .change (ownBlock call book))
+  same : (s other : State) → Alike i s other → outcomeOf call s .code ≡ outcomeOf call other .code
+  unfolding outcomeOf
+  same = lawful .sees
 
-module _ (call : Call) (book : List ℤ) where
-  abbrev at : ℕ
-  at = natAbs (call .account)
+  pub promised : Promised i call
+  promised = record { one-outcome = λ s x y p q. p ∙ sym q; refusal-keeps = keeps; others-stay = others; same-code = same; same-block-after = same-after }
 
-  abbrev new : List ℤ
-  new = call .change (ownBlock call book)
+-- ---- a call with refusals before it
+two-lists : (a a′ b b′ : List Refusal) → T (coded a) → T (coded a′) → firstCode a ≡ firstCode a′ → (firstCode a ≡ 0 → firstCode b ≡ firstCode b′)
+    → firstCode (a ++ b) ≡ firstCode (a′ ++ b′)
+two-lists a a′ b b′ c c′ e f = by (eqb (firstCode a) 0) refl
+  where
+    by : (t : Bool) → eqb (firstCode a) 0 ≡ t → firstCode (a ++ b) ≡ firstCode (a′ ++ b′)
+    by true t = let z = eqb-true _ _ t in goes-on a b c z ∙ f z ∙ sym (goes-on a′ b′ c′ (sym e ∙ z))
+    by false t = let h = eqb-false _ _ t in refused a b h ∙ e ∙ sym (refused a′ b′ (λ z. h (e ∙ z)))
 
-  pub refusal-keeps : (outcomeOf call book .code ≡ 0 → ⊥) → outcomeOf call book .book ≡ book
-  refusal-keeps h = sym (kept (outcomeOf call book .code) (putBlock book at new) book h)
+-- the account's block is changed, in a state whose account is there
+changed-block : (i : ℕ) (change : List ℤ → List ℤ) → ((b : List ℤ) → length b ≡ 288 → length (change b) ≡ length b) → (s : State) → InBook (s .book) i
+    → blockAt (changedAt i change s) i ≡ change (blockAt s i)
+changed-block i change keeps s p = at-block (s .book) i p change (keeps (blockAt s i) (block-long (s .book) i p))
 
-  module _ (lawful : Lawful call) where
-    -- code 0 says that the account's block is there
-    there : outcomeOf call book .code ≡ 0 → (length book ≡ 4608) × (at < 16)
-    there e = lawful .lets-through book (first-zero (call .gate book) (call .past (ownBlock call book)) e)
+pub lawful-before : (first : State → List Refusal) (i : ℕ) (then : State → List Refusal) (change : List ℤ → List ℤ) → ((s : State) → T (coded (first s)))
+    → ((s other : State) → Alike i s other → firstCode (first s) ≡ firstCode (first other))
+    → ((s : State) → firstCode (first s) ≡ 0 → InBook (s .book) i)
+    → ((s other : State) → Alike i s other → InBook (s .book) i → InBook (other .book) i → firstCode (then s ++ []) ≡ firstCode (then other ++ []))
+    → ((b : List ℤ) → length b ≡ 288 → length (change b) ≡ length b)
+    → Lawful i (first before then before changing i change)
+lawful-before first i then change c same there judged keeps = record {
+  sees = λ s other a.
+      two-lists (first s) (first other) (then s ++ []) (then other ++ []) (c s) (c other) (same s other a)
+      (λ z. judged s other a (there s z) (there other (sym (same s other a) ∙ z)));
+  stays = λ s e j l apart. let p = there s (first-zero (first s) (then s ++ []) e) in
+      at-others (s .book) i p change (keeps (blockAt s i) (block-long (s .book) i p)) j l apart;
+  own-after = λ s other a e.
+      let z = first-zero (first s) (then s ++ []) e in
+      changed-block i change keeps s (there s z) ∙ ap change (a .same-block) ∙ sym (changed-block i change keeps other (there other (sym (same s other a) ∙ z)));
+}
 
-    new-length : outcomeOf call book .code ≡ 0 → length new ≡ 288
-    new-length e = lawful .keeps-length (ownBlock call book) (block-length book (there e .0) at (there e .1))
-
-    pub others-stay : (j : ℕ) → j < 16 → (j ≡ at → ⊥) → blockOf (outcomeOf call book .book) j ≡ blockOf book j
-    unfolding leaves
-    others-stay j l apart = by (eqb (outcomeOf call book .code) 0) refl
-      where
-        by : (b : Bool) → eqb (outcomeOf call book .code) 0 ≡ b → blockOf (cond b (putBlock book at new) book) j ≡ blockOf book j
-        by true e = let z = eqb-true _ _ e in block-put-other book (there z .0) at (there z .1) new (new-length z) j l apart
-        by false e = refl
-
-    pub own-after : ownBlock call (outcomeOf call book .book) ≡ leaves (outcomeOf call book .code) new (ownBlock call book)
-    unfolding leaves
-    own-after = by (eqb (outcomeOf call book .code) 0) refl
-      where
-        by : (b : Bool) → eqb (outcomeOf call book .code) 0 ≡ b → blockOf (cond b (putBlock book at new) book) at ≡ cond b new (ownBlock call book)
-        by true e = let z = eqb-true _ _ e in block-put book (there z .0) at (there z .1) new (new-length z)
-        by false e = refl
-
--- two books of one length that agree on the account's block
-module _ (call : Call) (lawful : Lawful call) (book other : List ℤ) (long : length book ≡ length other) (same : ownBlock call book ≡ ownBlock call other) where
-  pub same-code : outcomeOf call book .code ≡ outcomeOf call other .code
-  same-code = ap₂ (λ (g : List Refusal) (b : List ℤ). firstCode (g ++ call .past b)) (lawful .by-length book other long) same
-
-  pub same-block-after : ownBlock call (outcomeOf call book .book) ≡ ownBlock call (outcomeOf call other .book)
-  same-block-after =
-      own-after call book lawful
-      ∙ ap₂ (λ (n : ℕ) (b : List ℤ). leaves n (call .change b) b) same-code same
-      ∙ sym (own-after call other lawful)
+-- the limit with a change made
+limit-with : (tables : Tables) (i : ℕ) (change : List ℤ → List ℤ) → ((b : List ℤ) → length (change b) ≡ length b)
+    → (s other : State) → Alike i s other → InBook (s .book) i → InBook (other .book) i
+    → limitOf tables i (changedAt i change s) ≡ limitOf tables i (changedAt i change other)
+limit-with tables i change keeps s other a p q =
+    ap (λ (b : List ℤ). blockFigures b tables .limit)
+    (changed-block i change (λ b l. keeps b) s p ∙ ap change (a .same-block) ∙ sym (changed-block i change (λ b l. keeps b) other q))
 
 -- ---- the calls
-book-lets-through : (account : ℤ) (book : List ℤ) → firstCode (bookGate book account) ≡ 0 → (length book ≡ 4608) × (natAbs account < 16)
-book-lets-through account book e = let p = book-passed book account e in (p .long, let h = index-is account 15 (p .account-right) in omega arith)
+module _ (i : ℕ) where
+  abbrev nothing : State → List Refusal
+  nothing s = []
 
-module _ (account kind : ℤ) where
-  abbrev pub opening : Call
-  opening = record { account = account; gate = λ book. bookGate book account; past = λ b. openRefusals b kind; change = λ b. opened b kind }
+  open-lawful : (kind : ℤ) → Lawful i (opening i kind)
+  unfolding opening opened
+  open-lawful kind =
+      lawful-before (openRefusals i kind) i nothing (λ b. opened b kind) (λ s. tt) (λ s other a. rw (a .same-length, a .same-block) refl)
+      (λ s e. open-passed i kind s e) (λ s other a p q. refl) (λ b l. length-set b 0 kind)
 
-  pub open-is : (book : List ℤ) → openOutcome book account kind ≡ outcomeOf opening book
-  unfolding openOutcome
-  open-is book = refl
+  roll-lawful : Lawful i (rolling i)
+  unfolding rolling
+  roll-lawful =
+      lawful-before (rollRefusals i) i nothing rolled (λ s. tt) (λ s other a. rw (a .same-length, a .same-block) refl)
+      (λ s e. roll-passed i s e .0) (λ s other a p q. refl) (λ b l. rolled-length b l ∙ sym l)
 
-  pub open-lawful : Lawful opening
-  unfolding opened
-  open-lawful = record {
-    by-length = λ book other e. rw e refl;
-    lets-through = book-lets-through account;
-    keeps-length = λ b l. length-set b 0 kind ∙ l;
-  }
+  module _ (tables : Tables) where
+    move-lawful : (asset amount : ℤ) → Lawful i (moving tables i asset amount)
+    unfolding moving judgedMove
+    move-lawful asset amount =
+        let change : List ℤ → List ℤ = λ b. moved b (natAbs asset) amount in
+        lawful-before (moveStands tables i asset amount) i (moveJudged tables i (natAbs asset) amount) change (λ s. tt)
+        (λ s other a. rw (a .same-length, a .same-block) refl)
+        (λ s e. move-stood tables i asset amount s e .reported .gate .there)
+        (λ s other a p q. ap (λ (z : ℤ). firstCode ((ltZ amount (pos 0) && not (enough z)) gives negativeLimit ∷ []))
+        (limit-with tables i change (λ b. moved-length b (natAbs asset) amount) s other a p q))
+        (λ b l. moved-length b (natAbs asset) amount)
 
-module _ (account : ℤ) where
-  abbrev pub rolling : Call
-  rolling = record { account = account; gate = λ book. bookGate book account; past = rollRefusals; change = rolled }
+    order-lawful : (o : Terms) → Lawful i (ordering tables i o)
+    unfolding ordering judgedTrade
+    order-lawful o =
+        let change : List ℤ → List ℤ = λ b. traded b (tradeOf o) in
+        lawful-before (orderStands tables i o) i (orderJudged tables i (tradeOf o)) change (λ s. tt)
+        (λ s other a. rw (a .same-length, a .same-block) refl)
+        (λ s e. order-stood tables i o s e .reported .gate .there)
+        (λ s other a p q. ap₂ (λ (x y : ℤ). firstCode (not (admitted x y) gives negativeLimit ∷ []))
+        (ap (λ (b : List ℤ). blockFigures b tables .limit) (a .same-block))
+        (limit-with tables i change (λ b. traded-length b (tradeOf o)) s other a p q))
+        (λ b l. traded-length b (tradeOf o))
 
-  pub roll-is : (book : List ℤ) → rollOutcome book account ≡ outcomeOf rolling book
-  unfolding rollOutcome
-  roll-is book = refl
+pub every-call : EveryCall
+every-call = record {
+  opens = λ i kind. promised i (opening i kind) (open-lawful i kind);
+  rolls = λ i. promised i (rolling i) (roll-lawful i);
+  moves = λ tables i asset amount. promised i (moving tables i asset amount) (move-lawful i tables asset amount);
+  orders = λ tables i o. promised i (ordering tables i o) (order-lawful i tables o);
+}
 
-  pub roll-lawful : Lawful rolling
-  roll-lawful = record { by-length = λ book other e. rw e refl; lets-through = book-lets-through account; keeps-length = rolled-length }
-
-module _ (clearing own groups : List ℤ) (account : ℤ) where
-  table-lets-through : (book : List ℤ) → firstCode (tableGate book clearing own groups account) ≡ 0 → (length book ≡ 4608) × (natAbs account < 16)
-  table-lets-through book e = (table-passed book clearing own groups account e .long, account-below book clearing own groups account e)
-
-  module _ (asset amount : ℤ) where
-    abbrev pub moving : Call
-    moving = record {
-      account = account;
-      gate = λ book. tableGate book clearing own groups account;
-      past = λ b. moveRefusals b clearing own groups asset amount;
-      change = λ b. moved b (natAbs asset) amount;
-    }
-
-    pub move-is : (book : List ℤ) → moveOutcome book account clearing own groups asset amount ≡ outcomeOf moving book
-    unfolding moveOutcome
-    move-is book = refl
-
-    pub move-lawful : Lawful moving
-    move-lawful = record {
-      by-length = λ book other e. rw e refl;
-      lets-through = table-lets-through;
-      keeps-length = λ b l. moved-length b (natAbs asset) amount ∙ l;
-    }
-
-  module _ (asset date side quantity money : ℤ) where
-    abbrev pub ordering : Call
-    ordering = record {
-      account = account;
-      gate = λ book. tableGate book clearing own groups account;
-      past = λ b. orderRefusals b clearing own groups asset date side quantity money;
-      change = λ b. traded b (tradeOf asset date side quantity money);
-    }
-
-    pub order-is : (book : List ℤ) → orderOutcome book account clearing own groups asset date side quantity money ≡ outcomeOf ordering book
-    unfolding orderOutcome
-    order-is book = refl
-
-    pub order-lawful : Lawful ordering
-    order-lawful = record {
-      by-length = λ book other e. rw e refl;
-      lets-through = table-lets-through;
-      keeps-length = λ b l. traded-length b (tradeOf asset date side quantity money) ∙ l;
-    }
-
-  -- a report
-  pub same-report : (book other : List ℤ) → length book ≡ length other → blockOf book (natAbs account) ≡ blockOf other (natAbs account)
-      → reportOf book clearing own groups account ≡ reportOf other clearing own groups account
-  unfolding reportOf
-  same-report book other long same = rw (long, same) refl
+pub same-report : SameReport
+unfolding reportOf
+same-report tables i s other a = rw (a .same-length, a .same-block) refl

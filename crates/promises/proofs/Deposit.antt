@@ -1,44 +1,55 @@
 -- Demand 3, as specs/Deposit states it.
 -- Assumes nothing.
-use mathlib.Core.Path.{refl}
+use mathlib.Core.Path.{_≡_, refl, sym, ap, _∙_, subst}
+use mathlib.Core.Bool.{Bool, true, false}
 use mathlib.Core.Logic.{inl, inr}
-use lib.IntN.{natAbs}
-use Rattle.book.specs.Block.{blockOf, rubles}
+use Prim.Native.Nat.{ℕ}
+use lib.Dec.{eqb}
+use borrow.Author.Tests.{eqb-true, eqb-false}
+use Rattle.book.specs.Block.{rubles}
 use Rattle.figures.proofs.BlockDeposit.{rubles-higher}
+use Rattle.engine.specs.State.{blockAt}
+use Rattle.engine.specs.Calls.{outcomeOf, ordering}
 use Rattle.engine.specs.Report.{reportOf}
 use Rattle.engine.proofs.Reports.{answers-0, limit-reported}
-use Rattle.promises.proofs.MoreCollateral.{richer}
+use Rattle.promises.proofs.MoreCollateral.{Richer, richer, limitWith}
+use Rattle.promises.proofs.Calls.{every-call}
 use Rattle.promises.proofs.OrderAfterDeposit.{order-still}
-use Rattle.promises.proofs.PositiveMove.{was-reported, moved-asset, more-left}
+use Rattle.promises.proofs.PositiveMove.{was-reported, stood, more-left}
 use Rattle.promises.specs.Deposit.{Covered, AssetDeposit, RubleDeposit, OrderAfterDeposit, PositiveMove}
 
 pub asset-deposit : AssetDeposit reportOf Covered
-asset-deposit book clearing own groups account answers asset covered other amount d =
-    let block = blockOf book (natAbs account) in
-    let r = richer book clearing own groups account answers asset (inl covered) other amount d in
-    let still = answers-0 other clearing own groups account (r .gate-still) (r .holdings-still) in (
+asset-deposit tables i s answers asset covered other amount d =
+    let r = richer tables i s answers asset (inl covered) other amount d in
+    let still = answers-0 tables i other (r .still) in (
       still,
-      rw (limit-reported book clearing own groups account answers, limit-reported other clearing own groups account still, r .block-is)
-          (r .not-lower block (r .long)),
+      rw (limit-reported tables i s answers, limit-reported tables i other still ∙ ap (limitWith tables) (r .block-is))
+          (r .not-lower (blockAt s i) (r .long)),
     )
 
 pub ruble-deposit : RubleDeposit reportOf
-ruble-deposit book clearing own groups account answers other sum d =
-    let block = blockOf book (natAbs account) in
-    let r = richer book clearing own groups account answers rubles (inr refl) other sum d in
-    let still = answers-0 other clearing own groups account (r .gate-still) (r .holdings-still) in (
+ruble-deposit tables i s answers other sum d =
+    let r = richer tables i s answers rubles (inr refl) other sum d in
+    let still = answers-0 tables i other (r .still) in (
       still,
-      rw (limit-reported book clearing own groups account answers, limit-reported other clearing own groups account still, r .block-is)
-          (rubles-higher block clearing own groups (r .long) sum),
+      rw (limit-reported tables i s answers, limit-reported tables i other still ∙ ap (limitWith tables) (r .block-is))
+          (rubles-higher (blockAt s i) tables (r .long) sum),
     )
 
 pub order-after-deposit : OrderAfterDeposit
-order-after-deposit book clearing own groups account answers asset counts other amount d =
-    order-still book other clearing own groups account asset amount (richer book clearing own groups account answers asset counts other amount d)
+order-after-deposit tables i s answers asset counts other amount d j o =
+    let r = richer tables i s answers asset counts other amount d in
+    pick r (eqb j i) refl
+  where
+    pick : Richer tables i s other asset amount → (b : Bool) → eqb j i ≡ b → outcomeOf (ordering tables j o) s .code ≡ 0 → outcomeOf (ordering tables j o) other .code ≡ 0
+    pick r true e = subst (λ (k : ℕ). outcomeOf (ordering tables k o) s .code ≡ 0 → outcomeOf (ordering tables k o) other .code ≡ 0) (sym (eqb-true j i e))
+        (order-still tables i s other asset amount r o)
+    pick r false e = λ admits.
+        every-call .orders tables j o .same-code other s (record { same-length = d .same-length; same-block = r .others j (eqb-false j i e) }) ∙ admits
 
 pub positive-move : PositiveMove
-positive-move book clearing own groups account asset amount positive answers = (
-  was-reported book clearing own groups account asset amount answers,
-  moved-asset book clearing own groups account asset amount answers,
-  more-left book clearing own groups account asset amount answers positive,
+positive-move tables i asset amount s positive answers = (
+  was-reported tables i asset amount s answers,
+  stood tables i asset amount s answers .stands .movable .movable,
+  more-left tables i asset amount s answers positive,
 )

@@ -1,7 +1,12 @@
--- What a reader wants to know of every call, and demand 3.
+-- What a reader wants to know of every call, demand 3, and the claims that are computed.
+pub mod Computed
 pub mod Calls
+pub mod Unchanged
+pub mod Kept
+pub mod Judged
 pub mod MoreCollateral
 pub mod OrderAfterDeposit
 pub mod PositiveMove
 pub mod Deposit
+pub mod Needed
 pub mod OneFigure

@@ -2,13 +2,13 @@
 -- Assumes nothing.
 use lib.Signed.{≤ℤ-refl}
 use Rattle.whole.specs.Refusals.{leaves}
-use Rattle.figures.specs.declared.Figures.{Figures}
+use Rattle.figures.specs.declared.limit.Figures.{Figures}
 use Rattle.promises.specs.Deposit.{Covered, AssetDeposit}
 use Rattle.promises.specs.Needed.{oneFigure}
 use Rattle.promises.proofs.Deposit.{asset-deposit}
 
 pub one-figure-passes : (fixed : Figures) → AssetDeposit (oneFigure fixed) Covered
 unfolding oneFigure leaves
-one-figure-passes fixed book clearing own groups account answers asset covered other sum d =
-    let still = asset-deposit book clearing own groups account answers asset covered other sum d .0 in
+one-figure-passes fixed tables i s answers asset covered other sum d =
+    let still = asset-deposit tables i s answers asset covered other sum d .0 in
     (still, rw (answers, still) (≤ℤ-refl (fixed .limit)))

@@ -1,107 +1,75 @@
 -- What a move that answers 0 leaves: the book with the amount added to that collateral, and nothing else changed (specs/Deposit, PositiveMove).
 -- Assumes nothing.
 use mathlib.Core.Path.{_≡_, sym, ap, _∙_}
-use mathlib.Core.Bool.{true, not}
-use mathlib.Core.List.{List, _++_}
+use mathlib.Core.List.{List, [], _∷_, _++_}
 use Prim.Native.Nat.{ℕ, _<_}
 use native.Mathlib.Omega.{arith}
-use borrow.Author.Tests.{not-false}
 use lib.IntN.{ℤ, pos, natAbs}
 use lib.ListN.{length}
 use lib.Signed.{_<ℤ_}
 use Rattle.whole.specs.Parts.{number}
-use Rattle.whole.specs.Refusals.{Refusal, firstCode}
-use Rattle.whole.proofs.Refusals.{none-holds, first-zero, second-zero, changed}
-use Rattle.whole.proofs.Tests.{or-left-off}
-use Rattle.book.specs.Block.{blockOf, putBlock, moveAt}
-use Rattle.book.specs.Rules.{inBounds, goodBlock}
-use Rattle.book.specs.Changes.{added, moved, overdrawn}
-use Rattle.book.specs.Ranges.{MoveAsset}
-use Rattle.book.proofs.Changed.{added-length, number-added, number-beside, block-added, put-added}
-use Rattle.book.proofs.Moved.{move-inside, moved-good}
-use Rattle.engine.specs.Refused.{tableGate, holdingRefusals, moveNumbers, moveJudged, moveRefusals}
-use Rattle.engine.specs.Calls.{moveOutcome}
+use Rattle.whole.specs.Refusals.{_gives_, firstCode, outOfBounds}
+use Rattle.whole.proofs.Refusals.{first-zero, changed}
+use Rattle.book.specs.Block.{moveAt}
+use Rattle.book.specs.Rules.{goodBlock}
+use Rattle.book.specs.Changes.{added, moved, moveOut}
+use Rattle.book.specs.AtAccount.{InBook, atAccount}
+use Rattle.book.proofs.Changed.{added-length, number-added, number-beside, put-added}
+use Rattle.book.proofs.Moves.{move-inside}
+use Rattle.rates.specs.Lent.{Tables}
+use Rattle.engine.specs.State.{State, blockAt, changedAt}
+use Rattle.engine.specs.Refused.{reportRefusals, moveChecks, moveStands, moveJudged}
+use Rattle.engine.specs.Calls.{outcomeOf, moving, judgedMove}
 use Rattle.engine.specs.Report.{reportOf}
-use Rattle.engine.proofs.Allowed.{move-asset}
-use Rattle.engine.proofs.Gates.{table-passed, account-below, block-good, block-open}
+use Rattle.engine.proofs.Judged.{judgeable-moved}
+use Rattle.engine.proofs.Passed.{MoveStood, move-stood}
 use Rattle.engine.proofs.Reports.{answers-0}
 use Rattle.promises.specs.Deposit.{collateralIn, MoreCollateral}
 
-module _ (book clearing own groups : List ℤ) (account asset amount : ℤ)
-    (answers : moveOutcome book account clearing own groups asset amount .code ≡ 0) where
-  abbrev found : List ℤ
-  found = blockOf book (natAbs account)
-
-  abbrev left : List ℤ
-  left = moveOutcome book account clearing own groups asset amount .book
-
-  abbrev after : List ℤ
-  after = moved found (natAbs asset) amount
+module _ (tables : Tables) (i : ℕ) (asset amount : ℤ) (s : State) (answers : outcomeOf (moving tables i asset amount) s .code ≡ 0) where
+  abbrev left : State
+  left = outcomeOf (moving tables i asset amount) s .state
 
   abbrev here : ℕ
-  here = collateralIn account (natAbs asset)
+  here = collateralIn i (natAbs asset)
 
-  abbrev judgements : List Refusal
-  judgements = moveJudged found clearing own groups (natAbs asset) amount
+  stands : firstCode (moveStands tables i asset amount s) ≡ 0
+  unfolding outcomeOf moving judgedMove
+  stands = first-zero (moveStands tables i asset amount s) (moveJudged tables i (natAbs asset) amount s) answers
 
-  passed-gate : firstCode (tableGate book clearing own groups account) ≡ 0
-  unfolding moveOutcome
-  passed-gate = first-zero (tableGate book clearing own groups account) (moveRefusals found clearing own groups asset amount) answers
+  pub stood : MoveStood tables i asset amount s
+  stood = move-stood tables i asset amount s stands
 
-  past-gate : firstCode (moveRefusals found clearing own groups asset amount) ≡ 0
-  unfolding moveOutcome
-  past-gate = second-zero (tableGate book clearing own groups account) (moveRefusals found clearing own groups asset amount) tt answers
-
-  passed-holdings : firstCode (holdingRefusals found clearing) ≡ 0
-  passed-holdings = first-zero (holdingRefusals found clearing) (moveNumbers clearing asset amount ++ judgements) past-gate
-
-  past-holdings : firstCode (moveNumbers clearing asset amount ++ judgements) ≡ 0
-  past-holdings = second-zero (holdingRefusals found clearing) (moveNumbers clearing asset amount ++ judgements) tt past-gate
+  there : InBook (s .book) i
+  there = stood .reported .gate .there
 
   -- a report would have answered 0
-  pub was-reported : reportOf book clearing own groups account .code ≡ 0
-  was-reported = answers-0 book clearing own groups account passed-gate passed-holdings
-
-  pub moved-asset : MoveAsset (natAbs asset)
-  moved-asset = move-asset clearing asset amount (first-zero (moveNumbers clearing asset amount) judgements past-holdings)
-
-  in-bounds : inBounds after ≡ true
-  in-bounds =
-      let judged = second-zero (moveNumbers clearing asset amount) judgements tt past-holdings in
-      not-false _ (or-left-off (not (inBounds after)) (overdrawn found (natAbs asset) amount) (none-holds judgements tt judged 0))
+  pub was-reported : reportOf tables i s .code ≡ 0
+  was-reported =
+      answers-0 tables i s
+      (first-zero (reportRefusals tables i s) (moveChecks (tables .clearing) asset amount ++ (moveOut (blockAt s i) (natAbs asset) amount gives outOfBounds ∷ [])) stands)
 
   place-inside : moveAt (natAbs asset) < 288
-  place-inside = move-inside (natAbs asset) moved-asset
+  place-inside = move-inside (natAbs asset) (stood .stands .movable .movable)
 
-  whole : length book ≡ 4608
-  whole = table-passed book clearing own groups account passed-gate .long
+  left-is : left ≡ changedAt i (λ b. moved b (natAbs asset) amount) s
+  unfolding outcomeOf moving judgedMove
+  left-is = sym (changed _ (changedAt i (λ b. moved b (natAbs asset) amount) s) s answers)
 
-  below : natAbs account < 16
-  below = account-below book clearing own groups account passed-gate
+  book-is : left .book ≡ added (s .book) here amount
+  unfolding moved atAccount
+  book-is = ap (λ (q : State). q .book) left-is ∙ put-added (s .book) i (moveAt (natAbs asset)) amount place-inside (there .long) (there .below)
 
-  left-put : left ≡ putBlock book (natAbs account) after
-  unfolding moveOutcome
-  left-put = sym (changed _ (putBlock book (natAbs account) after) book answers)
+  inside-book : here < length (s .book)
+  inside-book = omega (arith, there .long, there .below, place-inside)
 
-  left-is : left ≡ added book here amount
-  unfolding moved
-  left-is = left-put ∙ put-added book (natAbs account) (moveAt (natAbs asset)) amount place-inside whole below
-
-  block-left : blockOf left (natAbs account) ≡ after
-  unfolding moved
-  block-left = ap (λ (b : List ℤ). blockOf b (natAbs account)) left-is ∙ block-added book (natAbs account) (moveAt (natAbs asset)) amount place-inside
-
-  inside-book : here < length book
-  inside-book = omega (arith, whole, below, place-inside)
-
-  pub more-left : pos 0 <ℤ amount → MoreCollateral book left account (natAbs asset) amount
-  more-left positive = record {
+  pub more-left : pos 0 <ℤ amount → MoreCollateral s left i (natAbs asset) amount
+  more-left positive = let q = stood in record {
     more = positive;
-    there = ap (λ (b : List ℤ). number b here) left-is ∙ number-added book here amount inside-book;
-    elsewhere = λ k apart. ap (λ (b : List ℤ). number b k) left-is ∙ number-beside book here amount k apart;
-    same-length = ap length left-is ∙ added-length book here amount;
+    there = ap (λ (b : List ℤ). number b here) book-is ∙ number-added (s .book) here amount inside-book;
+    elsewhere = λ k apart. ap (λ (b : List ℤ). number b k) book-is ∙ number-beside (s .book) here amount k apart;
+    same-length = ap length book-is ∙ added-length (s .book) here amount;
     in-rules =
-        ap goodBlock block-left
-        ∙ moved-good found (natAbs asset) amount moved-asset (block-open found clearing passed-holdings) (block-good found clearing passed-holdings)
-        in-bounds;
+        ap (λ (q : State). goodBlock (blockAt q i)) left-is
+        ∙ judgeable-moved tables i s (natAbs asset) amount (q .stands) .good;
   }

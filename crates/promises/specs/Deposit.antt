@@ -3,13 +3,12 @@
 --                      more collateral of that asset in that account's block, still inside the block rules: the report answers 0 and its Single Limit
 --                      is not lower;
 --   RubleDeposit       the same for rubles, where the limit is higher by exactly the added sum;
---   OrderAfterDeposit  every order that answers 0 on the first book answers 0 on the second;
+--   OrderAfterDeposit  every order of any account that answers 0 on the first book answers 0 on the second;
 --   PositiveMove       about the call itself: a move with a positive amount that answers 0 leads from such a book to such another.
 -- Each is a type, and proofs/Deposit proves it. specs/Needed shows that without the cover test, or for a partial row, the first is false.
 -- Assumes nothing.
 use mathlib.Core.Path.{_≡_}
 use mathlib.Core.Bool.{true}
-use mathlib.Core.List.{List}
 use mathlib.Core.Logic.{_⊎_, _≢_}
 use Prim.Native.Nat.{ℕ, _+_, _*_, _<_}
 use lib.IntN.{ℤ, pos, natAbs, _+ℤ_}
@@ -19,66 +18,69 @@ use Rattle.whole.specs.Parts.{number}
 use Rattle.rates.specs.Units.{assets}
 use Rattle.rates.specs.Row.{coveredSales}
 use Rattle.rates.specs.InForce.{inForce, coverTest}
-use Rattle.book.specs.Block.{blockLength, blockOf, rubles, moveAt}
+use Rattle.book.specs.Block.{blockLength, rubles, moveAt}
 use Rattle.book.specs.Rules.{goodBlock}
 use Rattle.book.specs.Ranges.{MoveAsset}
-use Rattle.engine.specs.Calls.{moveOutcome, orderOutcome}
+use Rattle.rates.specs.Lent.{Tables}
+use Rattle.engine.specs.State.{State, blockAt}
+use Rattle.engine.specs.Calls.{outcomeOf, moving, ordering}
 use Rattle.engine.specs.Report.{reportOf}
-use Rattle.engine.specs.declared.Reported.{Reported}
+use Rattle.engine.specs.declared.reporting.Reported.{Reported}
+use Rattle.book.specs.declared.terms.Terms.{Terms}
 
 -- ---- the words
 -- where the collateral of an asset, or of rubles (255), stands in the book
-abbrev pub collateralIn : ℤ → ℕ → ℕ
-collateralIn account asset = blockLength * natAbs account + moveAt asset
+abbrev pub collateralIn : ℕ → ℕ → ℕ
+collateralIn i asset = blockLength * i + moveAt asset
 
 -- the row in force passes the cover test and is not marked 2 (partial)
-pub record Covered (clearing own : List ℤ) (asset : ℕ) : Type 0 where
+pub record Covered (tables : Tables) (asset : ℕ) : Type 0 where
   pub an-asset : asset < assets
-  pub passes : coverTest (inForce clearing own asset) ≡ true
-  pub not-partial : coveredSales (inForce clearing own asset) ≢ pos 2
+  pub passes : coverTest (inForce (tables .clearing) (tables .own) asset) ≡ true
+  pub not-partial : coveredSales (inForce (tables .clearing) (tables .own) asset) ≢ pos 2
 
--- the other book differs only by more collateral of the asset, or of rubles, in the account's block, still inside the block rules
-pub record MoreCollateral (book other : List ℤ) (account : ℤ) (asset : ℕ) (amount : ℤ) : Type 0 where
+-- the other state differs only by more collateral of the asset, or of rubles, in the account's block, still inside the block rules
+pub record MoreCollateral (s other : State) (i : ℕ) (asset : ℕ) (amount : ℤ) : Type 0 where
   pub more : pos 0 <ℤ amount
-  pub there : number other (collateralIn account asset) ≡ number book (collateralIn account asset) +ℤ amount
-  pub elsewhere : (k : ℕ) → k ≢ collateralIn account asset → number other k ≡ number book k
-  pub same-length : length other ≡ length book
-  pub in-rules : goodBlock (blockOf other (natAbs account)) ≡ true
+  pub there : number (other .book) (collateralIn i asset) ≡ number (s .book) (collateralIn i asset) +ℤ amount
+  pub elsewhere : (k : ℕ) → k ≢ collateralIn i asset → number (other .book) k ≡ number (s .book) k
+  pub same-length : length (other .book) ≡ length (s .book)
+  pub in-rules : goodBlock (blockAt other i) ≡ true
 
--- a report of a book, clearing table, own table, groups and account
+-- a report of tables, an account and a state
 abbrev pub Report : Type 0
-Report = List ℤ → List ℤ → List ℤ → List ℤ → ℤ → Reported
+Report = Tables → ℕ → State → Reported
 
 -- ---- the statements; the first two of any report, the first also with another condition on the asset than demand 3's, which is `Covered`
 module _ (report : Report) where
-  abbrev pub AssetDeposit : (List ℤ → List ℤ → ℕ → Type 0) → Type 0
+  abbrev pub AssetDeposit : (Tables → ℕ → Type 0) → Type 0
   AssetDeposit condition =
-      (book clearing own groups : List ℤ) (account : ℤ) → report book clearing own groups account .code ≡ 0
-      → (asset : ℕ) → condition clearing own asset
-      → (other : List ℤ) (amount : ℤ) → MoreCollateral book other account asset amount
-      → (report other clearing own groups account .code ≡ 0)
-      × (report book clearing own groups account .figures .limit ≤ℤ report other clearing own groups account .figures .limit)
+      (tables : Tables) (i : ℕ) (s : State) → report tables i s .code ≡ 0
+      → (asset : ℕ) → condition tables asset
+      → (other : State) (amount : ℤ) → MoreCollateral s other i asset amount
+      → (report tables i other .code ≡ 0)
+      × (report tables i s .figures .limit ≤ℤ report tables i other .figures .limit)
 
   abbrev pub RubleDeposit : Type 0
   RubleDeposit =
-      (book clearing own groups : List ℤ) (account : ℤ) → report book clearing own groups account .code ≡ 0
-      → (other : List ℤ) (sum : ℤ) → MoreCollateral book other account rubles sum
-      → (report other clearing own groups account .code ≡ 0)
-      × (report other clearing own groups account .figures .limit ≡ report book clearing own groups account .figures .limit +ℤ sum)
+      (tables : Tables) (i : ℕ) (s : State) → report tables i s .code ≡ 0
+      → (other : State) (sum : ℤ) → MoreCollateral s other i rubles sum
+      → (report tables i other .code ≡ 0)
+      × (report tables i other .figures .limit ≡ report tables i s .figures .limit +ℤ sum)
 
 abbrev pub OrderAfterDeposit : Type 0
 OrderAfterDeposit =
-    (book clearing own groups : List ℤ) (account : ℤ) → reportOf book clearing own groups account .code ≡ 0
-    → (asset : ℕ) → Covered clearing own asset ⊎ (asset ≡ rubles)
-    → (other : List ℤ) (amount : ℤ) → MoreCollateral book other account asset amount
-    → (ordered date side quantity money : ℤ)
-    → orderOutcome book account clearing own groups ordered date side quantity money .code ≡ 0
-    → orderOutcome other account clearing own groups ordered date side quantity money .code ≡ 0
+    (tables : Tables) (i : ℕ) (s : State) → reportOf tables i s .code ≡ 0
+    → (asset : ℕ) → Covered tables asset ⊎ (asset ≡ rubles)
+    → (other : State) (amount : ℤ) → MoreCollateral s other i asset amount
+    → (j : ℕ) (o : Terms)
+    → outcomeOf (ordering tables j o) s .code ≡ 0
+    → outcomeOf (ordering tables j o) other .code ≡ 0
 
 abbrev pub PositiveMove : Type 0
 PositiveMove =
-    (book clearing own groups : List ℤ) (account asset amount : ℤ) → pos 0 <ℤ amount
-    → moveOutcome book account clearing own groups asset amount .code ≡ 0
-    → (reportOf book clearing own groups account .code ≡ 0)
+    (tables : Tables) (i : ℕ) (asset amount : ℤ) (s : State) → pos 0 <ℤ amount
+    → outcomeOf (moving tables i asset amount) s .code ≡ 0
+    → (reportOf tables i s .code ≡ 0)
     × MoveAsset (natAbs asset)
-    × MoreCollateral book (moveOutcome book account clearing own groups asset amount .book) account (natAbs asset) amount
+    × MoreCollateral s (outcomeOf (moving tables i asset amount) s .state) i (natAbs asset) amount

@@ -1,0 +1,54 @@
+-- Every claim of specs/ that holds by computing, with the definitions on its way named once. Assumes nothing.
+use mathlib.Core.Path.{refl}
+use Rattle.whole.specs.Numbers.{minℤ, maxℤ, absℤ, dividedDown, dividedUp}
+use Rattle.whole.specs.Bounds.{between}
+use Rattle.whole.specs.Sums.{Σ<}
+use Rattle.whole.specs.Parts.{part, tabulated}
+use Rattle.whole.specs.Marks.{allTrue, allZero, every, pieces}
+use Rattle.whole.specs.Refusals.{firstCode, leaves}
+use Rattle.rates.specs.Row.{highestRate}
+use Rattle.rates.specs.Rules.{termMarks, rateMarks, limitMarks, dateMarks, listedMarks, rowMarks}
+use Rattle.rates.specs.Tables.{listed, ownKindRight, ownRowMarks, clearingMarks, ownMarks, tableMarks, lengthsRight, soundTables}
+use Rattle.rates.specs.InForce.{inForce, outerWidth, coverTest}
+use Rattle.book.specs.Block.{moveAt}
+use Rattle.book.specs.Changes.{added}
+use Rattle.book.specs.Rules.{headMarks, holdingRight, inBounds, goodBlock, holdsListed}
+use Rattle.assets.specs.Collateral.{poolShareInForce, shareByKind, regimeOf, counted}
+use Rattle.assets.specs.Asset.{net, trades, adjustedCollateral, position, leftOut, valuedCollateral, worthOf, assetUnder}
+use Rattle.assets.specs.Risk.{charge, unitsCharge, marketCharge, sideRisk, positionSum, longSum, shortSum, marketRisk, fallCharge, riseCharge, interestOf, interestRisk}
+use Rattle.assets.specs.Part.{longRisk, shortRisk, groupOf, partOf}
+use Rattle.figures.specs.Limit.{inGroup, byGroup, totalsOf, discountOf, discount, singleLimit, figuresOf, rublesOf, partIn, blockFigures}
+use Rattle.engine.specs.Report.{reportOf}
+use Rattle.promises.specs.Sums.{written, zeros, SumsMet}
+use Rattle.promises.specs.Wrong.{reckoned, same, meets, withSides, unitRisk, exactDiscount, roundedLast, WaysRefused}
+use Rattle.promises.specs.Needed.{CasesAnswered, Facts}
+
+pub record Computed : Type 0 where
+  pub sums-met : SumsMet
+  pub ways-refused : WaysRefused
+  pub cases-answered : CasesAnswered
+  pub facts : Facts
+
+pub computed : Computed
+unfolding written zeros added moveAt minℤ maxℤ absℤ dividedDown dividedUp between Σ< part tabulated allTrue pieces allZero firstCode leaves termMarks
+    rateMarks limitMarks dateMarks listedMarks rowMarks listed ownKindRight ownRowMarks clearingMarks ownMarks tableMarks lengthsRight soundTables
+    inForce highestRate outerWidth coverTest headMarks holdingRight every inBounds goodBlock holdsListed poolShareInForce shareByKind regimeOf counted
+    net trades adjustedCollateral position leftOut valuedCollateral worthOf assetUnder charge unitsCharge marketCharge sideRisk positionSum longSum
+    shortSum marketRisk fallCharge riseCharge interestOf interestRisk longRisk shortRisk groupOf partOf inGroup byGroup totalsOf discountOf discount
+    singleLimit figuresOf rublesOf partIn blockFigures reportOf reckoned same meets withSides unitRisk exactDiscount roundedLast
+computed = record {
+  sums-met = refl;
+  ways-refused = refl;
+  cases-answered = refl;
+  facts = record {
+    long = refl;
+    still-good = refl;
+    richer-good = refl;
+    lost-listed = refl;
+    lost-sales = refl;
+    partly-covers = refl;
+    covers = refl;
+    sales = refl;
+    richer = refl;
+  };
+}
