@@ -1,9 +1,13 @@
 // Standard input answered on standard output, in large pieces. Memory is what `run` holds from its start: the book, the parameters, the line that has
 // begun, and a buffer each way.
-use libc::STDIN_FILENO;
-use libc::STDOUT_FILENO;
 ghost use Prim.Native.Nat.{_≤_};
 ghost use lib.ListN.{length};
+ghost use Rattle.session_lines.specs.Stream.{longestAnswer};
+use book::in_block::BOOK_LENGTH;
+use libc::STDIN_FILENO;
+use libc::STDOUT_FILENO;
+use session_lines::sizes::LONGEST_LINE;
+use session_lines::sizes::PARAMETERS;
 
 // How a piece left the session: the bytes held of the line that has begun, and whether to go on.
 struct Left {
@@ -13,14 +17,14 @@ struct Left {
 
 // Answers a piece, and writes as often as the buffer is full. A write that fails ends the session: what was written before stays.
 fn answer_piece(
-    book: &mut [i64; 4608],
-    parameters: &mut [i64; 2056],
-    line: &mut [u8; 42],
+    book: &mut [i64; BOOK_LENGTH],
+    parameters: &mut [i64; PARAMETERS],
+    line: &mut [u8; LONGEST_LINE],
     count: usize,
     piece: &[u8],
     out: &mut [u8],
 ) -> Left
-    requires { ⌜ 83 ≤ length (now out) ⌝ }
+    requires { ⌜ longestAnswer ≤ length (now out) ⌝ }
 {
     let mut held = count;
     let mut from = 0;
@@ -44,14 +48,14 @@ fn answer_piece(
 
 // One read, answered. A read of nothing is the end of the input.
 fn turn(
-    book: &mut [i64; 4608],
-    parameters: &mut [i64; 2056],
-    line: &mut [u8; 42],
+    book: &mut [i64; BOOK_LENGTH],
+    parameters: &mut [i64; PARAMETERS],
+    line: &mut [u8; LONGEST_LINE],
     count: usize,
     buf: &mut [u8],
     out: &mut [u8],
 ) -> Left
-    requires { ⌜ 83 ≤ length (now out) ⌝ }
+    requires { ⌜ longestAnswer ≤ length (now out) ⌝ }
 {
     let got = libc::read(STDIN_FILENO, buf);
     let n = io::count(got, buf);
@@ -63,13 +67,13 @@ fn turn(
 
 // Reads to the end of the input; the bytes held of a last line without its newline. The count of turns falls to 0, so the loop ends; no run uses it up.
 fn read_all(
-    book: &mut [i64; 4608],
-    parameters: &mut [i64; 2056],
-    line: &mut [u8; 42],
+    book: &mut [i64; BOOK_LENGTH],
+    parameters: &mut [i64; PARAMETERS],
+    line: &mut [u8; LONGEST_LINE],
     buf: &mut [u8],
     out: &mut [u8],
 ) -> usize
-    requires { ⌜ 83 ≤ length (now out) ⌝ }
+    requires { ⌜ longestAnswer ≤ length (now out) ⌝ }
 {
     let mut count = 0;
     let mut turns = u64::MAX;
@@ -85,24 +89,25 @@ fn read_all(
 }
 
 fn serve(
-    book: &mut [i64; 4608],
-    parameters: &mut [i64; 2056],
-    line: &mut [u8; 42],
+    book: &mut [i64; BOOK_LENGTH],
+    parameters: &mut [i64; PARAMETERS],
+    line: &mut [u8; LONGEST_LINE],
     buf: &mut [u8],
     out: &mut [u8],
 )
-    requires { ⌜ 83 ≤ length (now out) ⌝ }
+    requires { ⌜ longestAnswer ≤ length (now out) ⌝ }
 {
     let count = read_all(book, parameters, line, buf, out);
-    let n = session_lines::end(book, parameters, line, count, out);
+    let spot = session_lines::end(book, parameters, line, count, out);
+    let n = spot.at;
     io::write_all(STDOUT_FILENO, &out[..n]);
 }
 
 // A whole session: an empty book, all-zero tables, and every line of standard input answered.
 pub fn run() {
-    let mut book = [0i64; 4608];
-    let mut parameters = [0i64; 2056];
-    let mut line = [0u8; 42];
+    let mut book = [0i64; BOOK_LENGTH];
+    let mut parameters = [0i64; PARAMETERS];
+    let mut line = [0u8; LONGEST_LINE];
     let mut buf = io::large_buffer();
     let mut out = io::large_buffer();
     serve(&mut book, &mut parameters, &mut line, &mut buf, &mut out);

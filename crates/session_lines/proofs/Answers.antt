@@ -1,42 +1,56 @@
--- What answering a frame leaves and writes, from what its call did and what was put: one law for each kind of answer. Assumes nothing.
-use mathlib.Core.Path.{_≡_, refl, ap, _∙_}
-use mathlib.Core.List.{List, []}
-use Prim.Native.Nat.{ℕ}
+-- An answer in a buffer: it fits where there is room for the longest one, stands after what stood there, and stays inside. Assumes nothing.
+use mathlib.Core.Path.{_≡_, refl, sym, ap, subst, _∙_}
+use mathlib.Core.Bool.{Bool, true, false, cond}
+use mathlib.Core.List.{List, [], _++_, append-assoc}
+use Prim.Native.Nat.{ℕ, _+_, _≤_}
+use native.Mathlib.Omega.{arith}
+use borrow.Author.Tests.{le-leb, leb-true}
+use lib.Dec.{leb}
 use lib.IntN.{ℤ}
-use Rattle.engine.specs.Calls.{Outcome}
-use Rattle.engine.specs.declared.Reported.{Reported}
+use lib.ListN.{length, take, length-append}
+use lib.Seq.{length-take-le, take-at}
+use Rattle.whole.specs.Parts.{put}
+use Rattle.whole.proofs.Parts.{put-length}
 use Rattle.frames.specs.Answer.{answerLine, Written, written}
 use Rattle.frames.specs.declared.frame.Frame.{Frame}
-use Rattle.session_lines.specs.Session.{State, Setting, Answered, coded, called, reportLine, answered}
+use Rattle.frames.specs.declared.frame.Frame.the-variants.{Parameter, Open, Move, Order, Roll, Report, Malformed}
+use Rattle.frames.proofs.Digits.{answer-length}
+use Rattle.session_lines.specs.Session.{Memory, answered}
+use Rattle.session_lines.specs.Stream.{longestAnswer}
+use Rattle.session_lines.specs.HoweverCut.{text}
 
-module _ (book parameters : List ℤ) (frame : Frame) (out : List ℕ) (at : ℕ) (written-now : Written) where
-  abbrev before : State
-  before = record { book = book; parameters = parameters }
+-- no answer is longer than a report's
+short : (code : ℕ) (figures : List ℤ) → length figures ≤ 5 → length (answerLine code figures) ≤ longestAnswer
+short code figures h = omega (arith, answer-length code figures)
 
-  -- the state after, and the answer at its place
-  abbrev pub Done : State → Type 0
-  Done after = (after ≡ answered before frame .state) × (written-now ≡ written out at (answered before frame .line))
+pub answer-fits : (m : Memory) (frame : Frame) → length (answered m frame .line) ≤ longestAnswer
+unfolding answered
+answer-fits m (Parameter place number) = short _ [] (omega arith)
+answer-fits m (Open account kind) = short _ [] (omega arith)
+answer-fits m (Move l) = short _ [] (omega arith)
+answer-fits m (Order l) = short _ [] (omega arith)
+answer-fits m (Roll account) = short _ [] (omega arith)
+answer-fits m (Report account) = short _ _ (omega arith)
+answer-fits m Malformed = short _ [] (omega arith)
 
-  -- a code was put, and a state left
-  by-code : {after : State} (code : ℕ) (a : Answered) → answered before frame ≡ a → after ≡ a .state → coded after code .line ≡ a .line
-      → written-now ≡ written out at (answerLine code []) → Done after
-  by-code code a e left line put = rw e (left, put ∙ ap (written out at) line)
+-- what is written where there is room stands after what stood in the buffer
+pub text-written : (out : Written) (line : List ℕ) → out .at + length line ≤ length (out .bytes)
+    → text (written (out .bytes) (out .at) line) ≡ text out ++ line
+unfolding written put
+text-written out line room =
+    rw (le-leb (out .at + length line) (length (out .bytes)) room)
+    (ap (take (out .at + length line)) (sym (append-assoc (take (out .at) (out .bytes)) line _))
+    ∙ take-at (take (out .at) (out .bytes) ++ line) _ (out .at + length line)
+    (length-append (take (out .at) (out .bytes)) line ∙ rw (length-take-le (out .at) (out .bytes) (omega arith)) refl))
 
-  pub by-call : {code : ℕ} {book′ : List ℤ} (o : Outcome) → answered before frame ≡ called before o → record { code = code; book = book′ } ≡ o
-      → written-now ≡ written out at (answerLine code []) → Done (record { book = book′; parameters = parameters })
-  by-call {code} o e left put =
-      by-code code (called before o) e (λ i. record { book = left i .book; parameters = parameters }) (ap (λ (o : Outcome). answerLine (o .code) []) left) put
-
-  pub by-setting : {code : ℕ} {parameters′ : List ℤ} (s : Setting)
-      → answered before frame ≡ coded (record { book = book; parameters = s .parameters }) (s .code)
-      → record { code = code; parameters = parameters′ } ≡ s → written-now ≡ written out at (answerLine code []) → Done (record { book = book; parameters = parameters′ })
-  by-setting {code} s e left put =
-      by-code code (coded (record { book = book; parameters = s .parameters }) (s .code)) e
-      (λ i. record { book = book; parameters = left i .parameters }) (ap (λ (s : Setting). answerLine (s .code) []) left) put
-
-  pub by-report : {found : Reported} (r : Reported) → answered before frame ≡ record { state = before; line = reportLine r } → found ≡ r
-      → written-now ≡ written out at (reportLine found) → Done before
-  by-report r e same put = rw e (refl, put ∙ ap (λ (r : Reported). written out at (reportLine r)) same)
-
-  pub by-refusal : answered before frame ≡ coded before 12 → written-now ≡ written out at (answerLine 12 []) → Done before
-  by-refusal e put = rw e (refl, put)
+-- what is written stays inside the buffer
+pub written-inside : {w : Written} (out : Written) (line : List ℕ) → w ≡ written (out .bytes) (out .at) line → out .at ≤ length (out .bytes)
+    → w .at ≤ length (w .bytes)
+unfolding written
+written-inside out line e h = subst (λ (w : Written). w .at ≤ length (w .bytes)) (sym e) (by (leb (out .at + length line) (length (out .bytes))) refl)
+  where
+    by : (t : Bool) → leb (out .at + length line) (length (out .bytes)) ≡ t
+        → let w = cond {A = Written} t (record { bytes = put (out .at) (length line) (out .bytes) line; at = out .at + length line }) out in
+        w .at ≤ length (w .bytes)
+    by true r = let l = leb-true _ _ r in let q = put-length 0 (out .at) (length line) (out .bytes) line l refl in omega arith
+    by false r = h

@@ -7,32 +7,42 @@ use Rattle.whole.specs.Numbers.{minℤ, maxℤ, absℤ, dividedDown, dividedUp}
 use Rattle.whole.specs.Bounds.{between}
 use Rattle.whole.specs.Sums.{Σ<}
 use Rattle.whole.specs.Parts.{part, put, tabulated}
-use Rattle.whole.specs.Marks.{allTrue, pieces}
+use Rattle.whole.specs.Marks.{allTrue, allZero, every, pieces}
 use Rattle.whole.specs.Refusals.{firstCode, leaves}
 use Rattle.rates.specs.Rules.{termMarks, rateMarks, limitMarks, dateMarks, listedMarks, rowMarks}
-use Rattle.rates.specs.Tables.{listed, absent, ownKindRight, ownRowMarks, clearingMarks, ownMarks, tableMarks, lengthsRight, soundTables}
+use Rattle.rates.specs.Tables.{listed, ownKindRight, ownRowMarks, clearingMarks, ownMarks, tableMarks, lengthsRight, soundTables}
 use Rattle.rates.specs.InForce.{inForce}
 use Rattle.book.specs.Block.{moveAt}
-use Rattle.book.specs.Changes.{added, opened, moved, overdrawn}
-use Rattle.book.specs.Rules.{allZero, headMarks, holdingRight, holdingsRight, inBounds, goodBlock, holdsListed}
-use Rattle.figures.specs.Collateral.{poolShareInForce, shareInForce, regimeOf, counted}
-use Rattle.figures.specs.Asset.{net, trades, adjustedCollateral, position, leftOut, valuedCollateral, worthOf, assetOf}
-use Rattle.figures.specs.Risk.{charge, marketCharge, sideRisk, positionSum, longSum, shortSum, marketRisk, fallCharge, riseCharge, interestOf, interestRisk}
-use Rattle.figures.specs.Limit.{longRisk, shortRisk, groupOf, inGroup, totalsOf, discountOf, discount, singleLimit, figuresOf, rublesOf, assetIn, blockFigures}
-use Rattle.engine.specs.Calls.{openOutcome, moveOutcome}
+use Rattle.book.specs.AtAccount.{atAccount}
+use Rattle.book.specs.Changes.{added, opened, moved, mostOf, leastAfter, overdrawn}
+use Rattle.book.specs.Rules.{headMarks, holdingRight, inBounds, goodBlock, holdsListed}
+use Rattle.assets.specs.Collateral.{poolShareInForce, shareByKind, regimeOf, counted}
+use Rattle.assets.specs.Asset.{net, trades, adjustedCollateral, position, leftOut, valuedCollateral, worthOf, assetUnder}
+use Rattle.assets.specs.Risk.{charge, unitsCharge, marketCharge, sideRisk, positionSum, longSum, shortSum, marketRisk, fallCharge, riseCharge, interestOf, interestRisk}
+use Rattle.assets.specs.Part.{longRisk, shortRisk, groupOf, partOf}
+use Rattle.figures.specs.Limit.{inGroup, byGroup, totalsOf, discountOf, discount, singleLimit, figuresOf, rublesOf, partIn, blockFigures}
+use Rattle.engine.specs.Refused.{placeOf, enough}
+use Rattle.engine.specs.Calls.{outcomeOf, opening, moving, judgedMove}
 use Rattle.engine.specs.Report.{reportOf}
 use Rattle.frames.specs.Hex.{digitValue, digitOf, isHex, bytesOf, hexOf}
 use Rattle.frames.specs.Number.{two, four, eight, n8At, twoBytes, fourBytes, eightBytes, n8}
 use Rattle.frames.specs.Frame.{shaped, moveNumbers, orderNumbers, frameOf, lineFrame}
 use Rattle.frames.specs.Answer.{figureBytes, answerLine}
-use Rattle.session_lines.specs.Session.{start, parameterSet, moveLeft, answered, linesFrom, answers, session}
+use Rattle.session_lines.specs.Session.{newline, start, lineMove, answered, linesFrom, answers, session}
 
 -- a line of digits with its newline
 line : List ℕ → List ℕ
-line bytes = hexOf bytes ++ (10 ∷ [])
+line bytes = hexOf bytes ++ (newline ∷ [])
 
 -- 020001, 0300ff00000000000186a0, 0600 are answered 00, 00, and 00 with a valuation and a limit of 100,000 kopecks
 document : session (line (2 ∷ 0 ∷ 1 ∷ []) ++ (line (3 ∷ 0 ∷ 255 ∷ n8 (pos 100000)) ++ hexOf (6 ∷ 0 ∷ [])))
     ≡ line (0 ∷ []) ++ (line (0 ∷ []) ++ line (0 ∷ (n8 (pos 100000) ++ (n8 (pos 0) ++ (n8 (pos 0) ++ (n8 (pos 0) ++ n8 (pos 100000)))))))
-unfolding line minℤ maxℤ absℤ dividedDown dividedUp between Σ< part put tabulated allTrue pieces firstCode leaves termMarks rateMarks limitMarks dateMarks listedMarks rowMarks listed absent ownKindRight ownRowMarks clearingMarks ownMarks tableMarks lengthsRight soundTables inForce moveAt added opened moved overdrawn allZero headMarks holdingRight holdingsRight inBounds goodBlock holdsListed poolShareInForce shareInForce regimeOf counted net trades adjustedCollateral position leftOut valuedCollateral worthOf assetOf charge marketCharge sideRisk positionSum longSum shortSum marketRisk fallCharge riseCharge interestOf interestRisk longRisk shortRisk groupOf inGroup totalsOf discountOf discount singleLimit figuresOf rublesOf assetIn blockFigures openOutcome moveOutcome reportOf digitValue digitOf isHex bytesOf hexOf two four eight n8At twoBytes fourBytes eightBytes n8 shaped moveNumbers orderNumbers frameOf lineFrame figureBytes answerLine start parameterSet moveLeft answered linesFrom answers session
+unfolding line minℤ maxℤ absℤ dividedDown dividedUp between Σ< part put tabulated allTrue allZero every pieces firstCode leaves termMarks rateMarks
+    limitMarks dateMarks listedMarks rowMarks listed ownKindRight ownRowMarks clearingMarks ownMarks tableMarks lengthsRight soundTables inForce moveAt
+    atAccount added opened moved mostOf leastAfter overdrawn headMarks holdingRight inBounds goodBlock holdsListed poolShareInForce shareByKind regimeOf
+    counted net trades adjustedCollateral position leftOut valuedCollateral worthOf assetUnder charge unitsCharge marketCharge sideRisk positionSum
+    longSum shortSum marketRisk fallCharge riseCharge interestOf interestRisk longRisk shortRisk groupOf partOf inGroup byGroup totalsOf discountOf
+    discount singleLimit figuresOf rublesOf partIn blockFigures placeOf enough outcomeOf opening moving judgedMove reportOf digitValue digitOf isHex
+    bytesOf hexOf two four eight n8At twoBytes fourBytes eightBytes n8 shaped moveNumbers orderNumbers frameOf lineFrame figureBytes answerLine start
+    lineMove answered linesFrom answers session
 document = refl

@@ -5,105 +5,81 @@ use mathlib.Core.List.{List, [], _∷_, _++_, append-assoc, append-nil}
 use Prim.Native.Nat.{ℕ, suc, _+_, _≤_}
 use native.Mathlib.Omega.{arith}
 use borrow.Author.Tests.{leb-true}
-use lib.Dec.{eqb, leb}
+use lib.Dec.{eqb}
 use lib.ListN.{length, take}
 use Rattle.frames.specs.Frame.{lineFrame}
-use Rattle.frames.specs.Answer.{Written, written}
-use Rattle.frames.specs.declared.frame.Frame.{Frame}
-use Rattle.session_lines.specs.Session.{State, Answered, answered, linesFrom, answers}
-use Rattle.session_lines.specs.Stream.{begun, Stream, grown, closed, closing, Fed, fed}
-use Rattle.session_lines.specs.Pieces.{text}
-use Rattle.session_lines.proofs.Steps.{written-inside}
-use Rattle.session_lines.proofs.Whole.{cutLine, grown-cut, frame-cut, answer-fits, text-written}
-
--- the stream of a line that has begun, whole
-abbrev pub at : List ℕ → State → Stream
-at line s = record { line = cutLine line; state = s }
-
--- a line answered: by the frame of the whole line
-abbrev pub answerTo : State → List ℕ → Answered
-answerTo s line = answered s (lineFrame line)
-
-closed-at : (line : List ℕ) (s : State) → closed (at line s) ≡ at [] (answerTo s line .state)
-unfolding closed cutLine
-closed-at line s = ap (λ (f : Frame). record { line = begun []; state = answered s f .state }) (frame-cut line)
-
-pub closing-at : (line : List ℕ) (s : State) → closing (at line s) ≡ answerTo s line .line
-unfolding closing
-closing-at line s = ap (λ (f : Frame). answered s f .line) (frame-cut line)
+use Rattle.session_lines.specs.Session.{answered, newline, linesFrom, answers}
+use Rattle.session_lines.specs.Stream.{longestAnswer, Begun, grown, frameHeld, Fed, taken, closed, hasRoom, fed}
+use Rattle.session_lines.specs.HoweverCut.{text}
+use Rattle.session_lines.proofs.stream.Held.{cutLine, grown-cut, frame-cut}
+use Rattle.session_lines.proofs.Answers.{answer-fits, text-written, written-inside}
 
 -- what came of `count` bytes of a piece: a line that has begun, answers, and the same session for whatever input comes next
-pub record Follows (line : List ℕ) (s : State) (out : Written) (k : ℕ) (piece : List ℕ) (r : Fed) : Type 0 where
+pub record Follows (line : List ℕ) (f : Fed) (piece : List ℕ) (r : Fed) : Type 0 where
   pub count : ℕ
-  pub used : r .used ≡ k + count
+  pub used : r .used ≡ f .used + count
   pub next : List ℕ
   pub held : r .stream .line ≡ cutLine next
   pub said : List ℕ
-  pub wrote : text (r .out) ≡ text out ++ said
-  pub same : (more : List ℕ) → answers s (linesFrom line (take count piece ++ more)) ≡ said ++ answers (r .stream .state) (linesFrom next more)
+  pub wrote : text (r .out) ≡ text (f .out) ++ said
+  pub same : (more : List ℕ) → answers (f .stream .memory) (linesFrom line (take count piece ++ more))
+      ≡ said ++ answers (r .stream .memory) (linesFrom next more)
 
-stays : (line : List ℕ) (s : State) (out : Written) (k : ℕ) (piece : List ℕ) → Follows line s out k piece (record { used = k; stream = at line s; out = out })
-stays line s out k piece = record {
+stays : (line : List ℕ) (f : Fed) (piece : List ℕ) → f .stream .line ≡ cutLine line → Follows line f piece f
+stays line f piece e = record {
   count = 0;
   used = omega arith;
   next = line;
-  held = refl;
+  held = e;
   said = [];
-  wrote = sym (append-nil (text out));
+  wrote = sym (append-nil (text (f .out)));
   same = λ more. refl;
 }
 
 -- a byte that ends no line
-grows : {line : List ℕ} {s : State} {out : Written} {k b : ℕ} {piece : List ℕ} {r : Fed} → eqb b 10 ≡ false
-    → Follows (line ++ (b ∷ [])) s out (suc k) piece r → Follows line s out k (b ∷ piece) r
+grows : {line : List ℕ} {f : Fed} {b : ℕ} {piece : List ℕ} {r : Fed} → eqb b newline ≡ false
+    → Follows (line ++ (b ∷ [])) (taken f b) piece r → Follows line f (b ∷ piece) r
 unfolding linesFrom
-grows e f = record {
-  count = suc (f .count);
-  used = omega (arith, f .used);
-  next = f .next;
-  held = f .held;
-  said = f .said;
-  wrote = f .wrote;
-  same = λ more. rw e (f .same more);
+grows n p = record {
+  count = suc (p .count);
+  used = omega (arith, p .used);
+  next = p .next;
+  held = p .held;
+  said = p .said;
+  wrote = p .wrote;
+  same = λ more. rw n (p .same more);
 }
 
 -- a newline, and the line's answer
-ends : {line : List ℕ} {s : State} {out : Written} {k b : ℕ} {piece : List ℕ} {r : Fed} → eqb b 10 ≡ true
-    → let a = answerTo s line in out .at + length (a .line) ≤ length (out .bytes)
-    → Follows [] (a .state) (written (out .bytes) (out .at) (a .line)) (suc k) piece r → Follows line s out k (b ∷ piece) r
+ends : {line : List ℕ} {f : Fed} {b : ℕ} {piece : List ℕ} {r : Fed} → f .stream .line ≡ cutLine line → eqb b newline ≡ true
+    → f .out .at + longestAnswer ≤ length (f .out .bytes) → Follows [] (closed f) piece r → Follows line f (b ∷ piece) r
 unfolding linesFrom answers
-ends {line} {s} {out} e room f = record {
-  count = suc (f .count);
-  used = omega (arith, f .used);
-  next = f .next;
-  held = f .held;
-  said = answerTo s line .line ++ f .said;
-  wrote = f .wrote ∙ ap (λ (l : List ℕ). l ++ f .said) (text-written out (answerTo s line .line) room) ∙ append-assoc (text out) (answerTo s line .line) (f .said);
-  same = λ more. rw e (ap (λ (l : List ℕ). answerTo s line .line ++ l) (f .same more) ∙ sym (append-assoc (answerTo s line .line) (f .said) _));
-}
+ends {line} {f} e n room p =
+    let frame = frameHeld (f .stream .line) in
+    let whole : frame ≡ lineFrame line = ap frameHeld e ∙ frame-cut line in
+    let a = answered (f .stream .memory) frame in
+    let short = answer-fits (f .stream .memory) frame in
+    record {
+      count = suc (p .count);
+      used = omega (arith, p .used);
+      next = p .next;
+      held = p .held;
+      said = a .line ++ p .said;
+      wrote =
+          p .wrote ∙ ap (λ (l : List ℕ). l ++ p .said) (text-written (f .out) (a .line) (omega arith)) ∙ append-assoc (text (f .out)) (a .line) (p .said);
+      same = λ more. rw (n, sym whole) (ap (λ (l : List ℕ). a .line ++ l) (p .same more) ∙ sym (append-assoc (a .line) (p .said) _));
+    }
 
-pub follows : (piece line : List ℕ) (s : State) (out : Written) (k : ℕ) → out .at ≤ length (out .bytes) → Follows line s out k piece (fed (at line s) out k piece)
-unfolding fed
-follows [] line s out k h = stays line s out k []
-follows (b ∷ piece) line s out k h =
-    by (eqb b 10) refl (leb (out .at + 83) (length (out .bytes))) refl
-    (follows piece [] (a .state) w (suc k) (written-inside (out .bytes) (out .at) (a .line) w h refl)) (follows piece (line ++ (b ∷ [])) s out (suc k) h)
+pub follows : (piece line : List ℕ) (f : Fed) → f .stream .line ≡ cutLine line → f .out .at ≤ length (f .out .bytes) → Follows line f piece (fed f piece)
+unfolding fed cutLine
+follows [] line f e h = stays line f [] e
+follows (b ∷ piece) line f e h =
+    by (eqb b newline) refl (hasRoom (f .out)) refl (follows piece [] (closed f) refl (written-inside (f .out) _ refl h))
+    (follows piece (line ++ (b ∷ [])) (taken f b) (ap (λ (l : Begun). grown l b) e ∙ grown-cut line b) h)
   where
-    a : Answered
-    a = answerTo s line
-
-    w : Written
-    w = written (out .bytes) (out .at) (a .line)
-
-    by : (newline : Bool) → eqb b 10 ≡ newline → (room : Bool) → leb (out .at + 83) (length (out .bytes)) ≡ room
-        → Follows [] (a .state) w (suc k) piece (fed (at [] (a .state)) w (suc k) piece)
-        → Follows (line ++ (b ∷ [])) s out (suc k) piece (fed (at (line ++ (b ∷ [])) s) out (suc k) piece)
-        → Follows line s out k (b ∷ piece)
-        (cond newline
-        (cond room (fed (closed (at line s)) (written (out .bytes) (out .at) (closing (at line s))) (suc k) piece) (record { used = k; stream = at line s; out = out }))
-        (fed (record { line = grown (cutLine line) b; state = s }) out (suc k) piece))
-    by true e true r p q =
-        let l = leb-true (out .at + 83) (length (out .bytes)) r in let n = answer-fits s (lineFrame line) in
-        rw (closed-at line s, closing-at line s) (ends e (omega arith) p)
-    by true e false r p q = stays line s out k (b ∷ piece)
-    by false e room r p q = rw (grown-cut line b) (grows e q)
+    by : (ended : Bool) → eqb b newline ≡ ended → (room : Bool) → hasRoom (f .out) ≡ room → Follows [] (closed f) piece (fed (closed f) piece)
+        → Follows (line ++ (b ∷ [])) (taken f b) piece (fed (taken f b) piece)
+        → Follows line f (b ∷ piece) (cond ended (cond room (fed (closed f) piece) f) (fed (taken f b) piece))
+    by true n true r p q = ends e n (leb-true _ _ r) p
+    by true n false r p q = stays line f (b ∷ piece) e
+    by false n room r p q = grows n q

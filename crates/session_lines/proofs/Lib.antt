@@ -1,9 +1,5 @@
-pub mod Lent
+-- Laws of the bytes and the line that memory holds, of one byte fed and its answer, and of whole sessions: however the stream is cut, and document 01's.
 pub mod Answers
-pub mod Held
-pub mod Steps
-pub mod Took
-pub mod Whole
 pub mod Follows
-pub mod Pieces
+pub mod HoweverCut
 pub mod Examples

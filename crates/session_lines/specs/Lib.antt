@@ -1,4 +1,4 @@
--- What the contracts cite: the session over its whole input, the stream that comes in pieces, and calls of `feed` one after another.
+-- What the contracts cite: the session over its whole input, and the stream that comes in pieces; and that both are the same, however it is cut.
 pub mod Session
 pub mod Stream
-pub mod Pieces
+pub mod HoweverCut

@@ -3,88 +3,105 @@
 -- Assumes nothing.
 use mathlib.Core.Bool.{Bool, false, cond}
 use mathlib.Core.List.{List, [], _∷_, _++_}
-use Prim.Native.Nat.{ℕ, suc, _+_, _≤_, _<_}
+use Prim.Native.Nat.{ℕ, _+_, _≤_, _<_}
+use denote.Ref.{RefT, now}
+use denote.Triple.Both.{Both}
 use lib.Dec.{eqb, leb, ltb}
-use lib.IntN.{ℤ}
 use lib.ListN.{length, take}
+use Rattle.rates.specs.Lent.{Lent}
 use Rattle.frames.specs.Frame.{lineFrame}
-use Rattle.frames.specs.Answer.{Written, written}
+use Rattle.frames.specs.Answer.{Written, written, writtenTo}
 use Rattle.frames.specs.declared.frame.Frame.{Frame}
 use Rattle.frames.specs.declared.frame.Frame.the-variants.{Malformed}
-use Rattle.session_lines.specs.Session.{State, answered}
+use Rattle.session_lines.specs.Session.{Memory, memoryFound, memoryLeft, answered, newline}
+use Rattle.session_lines.specs.declared.stream.Spot.{Spot}
 
+-- the digits of the longest frame, an order; the bytes of the longest answer, a report's
+abbrev pub longestLine : ℕ
+longestLine = 42
+
+abbrev pub longestAnswer : ℕ
+longestAnswer = 83
+
+-- ---- the line that has begun
 pub data Begun : Type 0 where
   begun : List ℕ → Begun
   tooLong : Begun
 
--- a line kept as the first bytes of a buffer, and their count, which stops one above the longest frame's 42 digits
+-- as it is kept: the first bytes of a buffer, and their count. A count above the longest line says only that the line is too long, and the buffer then
+-- says nothing
 unfoldable pub held : List ℕ → ℕ → Begun
-held buffer count = cond (leb count 42) (begun (take count buffer)) tooLong
+held buffer count = cond (leb count longestLine) (begun (take count buffer)) tooLong
 
 -- one byte more
 unfoldable pub grown : Begun → ℕ → Begun
-grown (begun line) b = cond (ltb (length line) 42) (begun (line ++ (b ∷ []))) tooLong
+grown (begun line) b = cond (ltb (length line) longestLine) (begun (line ++ (b ∷ []))) tooLong
 grown tooLong b = tooLong
 
--- the frame of the line, where it ends here
+-- its frame, where it ends here
 unfoldable pub frameHeld : Begun → Frame
 frameHeld (begun line) = lineFrame line
 frameHeld tooLong = Malformed
 
-pub record Stream : Type 0 where
-  pub line : Begun
-  pub state : State
-
--- the stream that memory holds
-abbrev pub streamIn : List ℤ → List ℤ → List ℕ → ℕ → Stream
-streamIn book parameters line count = record { line = held line count; state = record { book = book; parameters = parameters } }
-
--- a buffer with nothing in it
-abbrev pub empty : List ℕ → Written
-empty out = record { bytes = out; at = 0 }
-
--- a stream with its line answered
-unfoldable pub closed : Stream → Stream
-closed s = record { line = begun []; state = answered (s .state) (frameHeld (s .line)) .state }
-
--- the answer
-unfoldable pub closing : Stream → List ℕ
-closing s = answered (s .state) (frameHeld (s .line)) .line
-
--- what `feed` took of a piece, what it left, and what it wrote
-pub record Fed : Type 0 where
-  pub used : ℕ
-  pub stream : Stream
-  pub out : Written
-
--- bytes are taken until the piece ends, or a line ends whose answer, at most 83 bytes, may not fit
-unfoldable pub fed : Stream → Written → ℕ → List ℕ → Fed
-fed s out used [] = record { used = used; stream = s; out = out }
-fed s out used (b ∷ piece) =
-    cond (eqb b 10)
-    (cond (leb (out .at + 83) (length (out .bytes)))
-    (fed (closed s) (written (out .bytes) (out .at) (closing s)) (suc used) piece)
-    (record { used = used; stream = s; out = out }))
-    (fed (record { line = grown (s .line) b; state = s .state }) out (suc used) piece)
-
--- what follows for a caller: no more than the piece and the buffer; and where the buffer has room for an answer, some of a piece that has any byte
-pub record Took (used at : ℕ) (piece out : List ℕ) : Type 0 where
-  pub within : used ≤ length piece
-  pub inside : at ≤ length out
-  pub some : 83 ≤ length out → 0 < length piece → 0 < used
-
--- no byte of a line yet
+-- no byte of it yet
 unfoldable pub isBlank : Begun → Bool
 isBlank (begun line) = eqb (length line) 0
 isBlank tooLong = false
 
--- at the end of the input a line that has begun is answered, though its newline lacks
-pub record Ended : Type 0 where
-  pub state : State
+-- ---- the stream, and how far a call came with a piece and a buffer
+pub record Stream : Type 0 where
+  pub line : Begun
+  pub memory : Memory
+
+pub record Fed : Type 0 where
+  pub used : ℕ  -- of the piece
+  pub stream : Stream
   pub out : Written
 
-unfoldable pub ended : Stream → Written → Ended
-ended s out =
-    cond (isBlank (s .line))
-    (record { state = s .state; out = out })
-    (record { state = closed s .state; out = written (out .bytes) (out .at) (closing s) })
+-- a byte that ends no line
+abbrev pub taken : Fed → ℕ → Fed
+taken f b = record { used = f .used + 1; stream = record { line = grown (f .stream .line) b; memory = f .stream .memory }; out = f .out }
+
+-- a newline, and the line's answer
+abbrev pub closed : Fed → Fed
+closed f =
+    let a = answered (f .stream .memory) (frameHeld (f .stream .line)) in
+    record { used = f .used + 1; stream = record { line = begun []; memory = a .memory }; out = written (f .out .bytes) (f .out .at) (a .line) }
+
+abbrev pub hasRoom : Written → Bool
+hasRoom out = leb (out .at + longestAnswer) (length (out .bytes))
+
+-- bytes are taken until the piece ends, or a line ends whose answer may not fit
+unfoldable pub fed : Fed → List ℕ → Fed
+fed f [] = f
+fed f (b ∷ piece) = cond (eqb b newline) (cond (hasRoom (f .out)) (fed (closed f) piece) f) (fed (taken f b) piece)
+
+-- at the end of the input a line that has begun ends, though its newline lacks; where its answer may not fit, nothing is done
+unfoldable pub ended : Fed → Fed
+ended f = cond (isBlank (f .stream .line)) f (fed f (newline ∷ []))
+
+-- ---- as an `ensures` names them: what a call found, with a buffer in which nothing is written, and what it left
+abbrev pub LentBytes : Type 0
+LentBytes = Both (RefT (List ℕ)) (RefT (List ℕ))
+
+abbrev pub empty : Stream → List ℕ → Fed
+empty s out = record { used = 0; stream = s; out = record { bytes = out; at = 0 } }
+
+abbrev pub fedFound : Lent → Lent → LentBytes → ℕ → LentBytes → Fed
+fedFound book parameters line count out =
+    empty (record { line = held (now (line .entry)) count; memory = memoryFound book parameters }) (now (out .entry))
+
+abbrev pub fedLeft : Spot → Lent → Lent → LentBytes → LentBytes → Fed
+fedLeft r book parameters line out = record {
+  used = r .used;
+  stream = record { line = held (now (line .exit)) (r .count); memory = memoryLeft book parameters };
+  out = writtenTo out (r .at);
+}
+
+-- what follows for a caller: no more than the piece and the buffer; where the buffer has room for an answer, some of a piece that has any byte; and
+-- the count of a line that is too long is the longest line's and one
+pub record Took (count : ℕ) (r : Spot) (piece out : List ℕ) : Type 0 where
+  pub within : r .used ≤ length piece
+  pub inside : r .at ≤ length out
+  pub some : longestAnswer ≤ length out → 0 < length piece → 0 < r .used
+  pub counted : count ≤ longestLine + 1 → r .count ≤ longestLine + 1

@@ -1,18 +1,17 @@
 ghost use mathlib.Core.Path.{_≡_};
 ghost use mathlib.Core.List.{[]};
 ghost use lib.ListN.{length};
-ghost use Rattle.frames.specs.Answer.{answerLine, Written, written};
-ghost use Rattle.session_lines.specs.Session.{State, reportLine, answered};
+ghost use Rattle.frames.specs.Answer.{answerLine, written, writtenTo};
+ghost use Rattle.session_lines.specs.Session.{parameterCount, memoryFound, memoryLeft, reportLine, answered};
 use crate::calls;
 use frames::Frame;
+use whole::codes;
 
 // A frame answered: its call, and the line of its answer.
 
-const MALFORMED: u8 = 12;
-
 // A code alone.
 fn put_code(out: &mut [u8], at: usize, code: u8) -> usize
-    ensures { λ r. ⌜ _≡_ {A = Written} (record { bytes = now (out .exit); at = r }) (written (now (out .entry)) at (answerLine code [])) ⌝ }
+    ensures { λ r. ⌜ writtenTo out r ≡ written (now (out .entry)) at (answerLine code []) ⌝ }
 {
     let figures = [0i64; 5];
     frames::put_answer(out, at, code, &figures[..0])
@@ -20,7 +19,7 @@ fn put_code(out: &mut [u8], at: usize, code: u8) -> usize
 
 // A report's code and figures.
 fn put_report(out: &mut [u8], at: usize, reported: engine::Reported) -> usize
-    ensures { λ r. ⌜ _≡_ {A = Written} (record { bytes = now (out .exit); at = r }) (written (now (out .entry)) at (reportLine reported)) ⌝ }
+    ensures { λ r. ⌜ writtenTo out r ≡ written (now (out .entry)) at (reportLine reported) ⌝ }
 {
     let found = reported.figures;
     let figures = [
@@ -41,9 +40,9 @@ pub(crate) fn answer(
     out: &mut [u8],
     at: usize,
 ) -> usize
-    requires { ⌜ length (now parameters) ≡ 2056 ⌝ }
-    ensures kept { λ _. ⌜ _≡_ {A = State} (record { book = now (book .exit); parameters = now (parameters .exit) }) (answered (record { book = now (book .entry); parameters = now (parameters .entry) }) frame .state) ⌝ }
-    ensures said { λ r. ⌜ _≡_ {A = Written} (record { bytes = now (out .exit); at = r }) (written (now (out .entry)) at (answered (record { book = now (book .entry); parameters = now (parameters .entry) }) frame .line)) ⌝ }
+    requires { ⌜ length (now parameters) ≡ parameterCount ⌝ }
+    ensures kept { λ _. ⌜ memoryLeft book parameters ≡ answered (memoryFound book parameters) frame .memory ⌝ }
+    ensures said { λ r. ⌜ writtenTo out r ≡ written (now (out .entry)) at (answered (memoryFound book parameters) frame .line) ⌝ }
 {
     match frame {
         Frame::Parameter { place, number } => put_code(
@@ -56,6 +55,6 @@ pub(crate) fn answer(
         Frame::Order(line) => put_code(out, at, calls::order(book, parameters, line)),
         Frame::Roll { account } => put_code(out, at, calls::roll(book, account)),
         Frame::Report { account } => put_report(out, at, calls::report(book, parameters, account)),
-        Frame::Malformed => put_code(out, at, MALFORMED),
+        Frame::Malformed => put_code(out, at, codes::MALFORMED),
     }
 }

@@ -1,5 +1,6 @@
 mod answer;
 mod calls;
+pub mod sizes;
 mod stream;
 
 pub use stream::Spot;

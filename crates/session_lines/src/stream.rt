@@ -1,27 +1,24 @@
 ghost use mathlib.Core.Path.{_≡_};
-ghost use Prim.Native.Nat.{_≤_};
+ghost use Prim.Native.Nat.{_+_, _≤_};
 ghost use lib.ListN.{length};
-ghost use Rattle.session_lines.specs.Stream.{held, grown, frameHeld, streamIn, empty, Fed, fed, Took, Ended, ended};
+ghost use Rattle.session_lines.specs.Stream.{longestLine, held, grown, frameHeld, isBlank, fedFound, fedLeft, fed, Took, ended};
 use crate::answer;
+use crate::sizes::LONGEST_ANSWER;
+use crate::sizes::LONGEST_LINE;
+use crate::sizes::PARAMETERS;
+use book::in_block::BOOK_LENGTH;
 use frames::Frame;
+use frames::NEWLINE;
 
-// The stream, in any pieces. Of the line that has begun its first bytes are held in `line`, and their count, which stops one above the longest
-// frame's digits, in `count`.
-
-// Digits of the longest frame.
-const LONGEST: usize = 42;
-
-const NEWLINE: u8 = 10;
-
-// Bytes of the longest answer, a report's.
-const ANSWER: usize = 83;
+// The stream, in any pieces. Of the line that has begun its first bytes are held in `line`, and their count in `count`. Of a line that is too long
+// the count is one above the longest line, and what `line` holds is not said.
 
 // The frame of the line that is held.
 fn frame_held(line: &[u8], count: usize) -> Frame
-    requires { ⌜ length (now line) ≡ 42 ⌝ }
+    requires { ⌜ length (now line) ≡ longestLine ⌝ }
     ensures { λ r. ⌜ r ≡ frameHeld (held (now (line .entry)) count) ⌝ }
 {
-    if count > LONGEST {
+    if count > LONGEST_LINE {
         return Frame::Malformed;
     }
     frames::frame_of(&line[..count])
@@ -29,14 +26,23 @@ fn frame_held(line: &[u8], count: usize) -> Frame
 
 // One byte more of the line; its count.
 fn hold(line: &mut [u8], count: usize, b: u8) -> usize
-    requires { ⌜ length (now line) ≡ 42 ⌝ }
-    ensures { λ r. ⌜ held (now (line .exit)) r ≡ grown (held (now (line .entry)) count) b ⌝ }
+    requires { ⌜ length (now line) ≡ longestLine ⌝ }
+    ensures grown { λ r. ⌜ held (now (line .exit)) r ≡ grown (held (now (line .entry)) count) b ⌝ }
+    ensures counted { λ r. ⌜ r ≤ longestLine + 1 ⌝ }
 {
-    if count < LONGEST {
+    if count < LONGEST_LINE {
         line[count] = b;
         return count + 1;
     }
-    LONGEST + 1
+    LONGEST_LINE + 1
+}
+
+// Whether no byte of it is held.
+fn is_blank(line: &[u8], count: usize) -> bool
+    requires { ⌜ length (now line) ≡ longestLine ⌝ }
+    ensures { λ r. ⌜ r ≡ isBlank (held (now (line .entry)) count) ⌝ }
+{
+    count == 0
 }
 
 // What was taken of a piece, the bytes held of the line that has begun, and the bytes written to `out`.
@@ -48,15 +54,15 @@ pub struct Spot {
 
 // Takes bytes of a piece until it ends, or a line ends whose answer may not fit in `out` any more.
 pub fn feed(
-    book: &mut [i64; 4608],
-    parameters: &mut [i64; 2056],
-    line: &mut [u8; 42],
+    book: &mut [i64; BOOK_LENGTH],
+    parameters: &mut [i64; PARAMETERS],
+    line: &mut [u8; LONGEST_LINE],
     count: usize,
     piece: &[u8],
     out: &mut [u8],
 ) -> Spot
-    ensures fed { λ r. ⌜ _≡_ {A = Fed} (record { used = r .used; stream = streamIn (now (book .exit)) (now (parameters .exit)) (now (line .exit)) (r .count); out = record { bytes = now (out .exit); at = r .at } }) (fed (streamIn (now (book .entry)) (now (parameters .entry)) (now (line .entry)) count) (empty (now (out .entry))) 0 (now (piece .entry))) ⌝ }
-    ensures took { λ r. ⌜ Took (r .used) (r .at) (now (piece .entry)) (now (out .exit)) ⌝ }
+    ensures fed { λ r. ⌜ fedLeft r book parameters line out ≡ fed (fedFound book parameters line count out) (now (piece .entry)) ⌝ }
+    ensures took { λ r. ⌜ Took count r (now (piece .entry)) (now (out .exit)) ⌝ }
 {
     let mut held = count;
     let mut at = 0;
@@ -67,7 +73,7 @@ pub fn feed(
             i += 1;
             continue;
         }
-        if out.len() - at < ANSWER {
+        if out.len() - at < LONGEST_ANSWER {
             return Spot {
                 used: i,
                 count: held,
@@ -85,19 +91,26 @@ pub fn feed(
     }
 }
 
-// The end of the input: a line that has begun is answered, though its newline lacks. The bytes written to `out`.
+// The end of the input: a line that has begun ends, though its newline lacks, and `used` is 1. Where none has begun, or `out` has no room for the
+// longest answer, nothing is done and `used` is 0.
 pub fn end(
-    book: &mut [i64; 4608],
-    parameters: &mut [i64; 2056],
-    line: &[u8; 42],
+    book: &mut [i64; BOOK_LENGTH],
+    parameters: &mut [i64; PARAMETERS],
+    line: &mut [u8; LONGEST_LINE],
     count: usize,
     out: &mut [u8],
-) -> usize
-    ensures ended { λ r. ⌜ _≡_ {A = Ended} (record { state = record { book = now (book .exit); parameters = now (parameters .exit) }; out = record { bytes = now (out .exit); at = r } }) (ended (streamIn (now (book .entry)) (now (parameters .entry)) (now (line .entry)) count) (empty (now (out .entry)))) ⌝ }
-    ensures inside { λ r. ⌜ r ≤ length (now (out .exit)) ⌝ }
+) -> Spot
+    ensures ended { λ r. ⌜ fedLeft r book parameters line out ≡ ended (fedFound book parameters line count out) ⌝ }
+    ensures inside { λ r. ⌜ r .at ≤ length (now (out .exit)) ⌝ }
+    ensures counted { λ r. ⌜ (count ≤ longestLine + 1 → r .count ≤ longestLine + 1) ⌝ }
 {
-    if count == 0 {
-        return 0;
+    if is_blank(line, count) {
+        return Spot {
+            used: 0,
+            count: count,
+            at: 0,
+        };
     }
-    answer::answer(book, parameters, frame_held(line, count), out, 0)
+    let newline = [NEWLINE];
+    feed(book, parameters, line, count, &newline, out)
 }
