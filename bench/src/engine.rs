@@ -1,113 +1,35 @@
-//! The engine's calls as include/single_limit.h declares them, with slices in place of pointers and lengths.
+//! The engine's calls by the crate for Rust (bindings/rust), with the second program's records and codes in place of its own.
 
 use second::calls::Order;
 use second::tables::Lent;
-
-unsafe extern "C" {
-    fn single_limit_check_tables(
-        clearing: *const i64,
-        clearing_length: usize,
-        own: *const i64,
-        own_length: usize,
-        groups: *const i64,
-        groups_length: usize,
-        place: *mut u64,
-    ) -> u8;
-
-    fn single_limit_order(
-        book: *mut i64,
-        book_length: usize,
-        clearing: *const i64,
-        clearing_length: usize,
-        own: *const i64,
-        own_length: usize,
-        groups: *const i64,
-        groups_length: usize,
-        account: i64,
-        asset: i64,
-        date: i64,
-        side: i64,
-        quantity: i64,
-        money: i64,
-    ) -> u8;
-
-    fn single_limit_report(
-        book: *const i64,
-        book_length: usize,
-        clearing: *const i64,
-        clearing_length: usize,
-        own: *const i64,
-        own_length: usize,
-        groups: *const i64,
-        groups_length: usize,
-        account: i64,
-        figures: *mut i64,
-        figures_length: usize,
-    ) -> u8;
-}
+use single_limit::{Figures, Refusal, calls};
 
 /// Valuation, market risk, interest risk, discount, limit.
 pub type Five = [i64; 5];
 
-// Each call below is safe: a slice gives a pointer that is not null, is aligned and has as many numbers as its length says,
-// and what is written is borrowed alone.
-
-pub fn check_tables(lent: &Lent) -> (u8, usize) {
-    let Lent { clearing, own, groups } = *lent;
-    let mut place = 0;
-    let code = unsafe {
-        single_limit_check_tables(
-            clearing.as_ptr(),
-            clearing.len(),
-            own.as_ptr(),
-            own.len(),
-            groups.as_ptr(),
-            groups.len(),
-            &mut place,
-        )
-    };
-    (code, place as usize)
+fn lent<'a>(lent: &Lent<'a>) -> single_limit::Lent<'a> {
+    single_limit::Lent { clearing: lent.clearing, own: lent.own, groups: lent.groups }
 }
 
-pub fn order(book: &mut [i64], lent: &Lent, wanted: &Order) -> u8 {
-    let Lent { clearing, own, groups } = *lent;
-    unsafe {
-        single_limit_order(
-            book.as_mut_ptr(),
-            book.len(),
-            clearing.as_ptr(),
-            clearing.len(),
-            own.as_ptr(),
-            own.len(),
-            groups.as_ptr(),
-            groups.len(),
-            wanted.account,
-            wanted.asset,
-            wanted.date,
-            wanted.side,
-            wanted.quantity,
-            wanted.money,
-        )
+fn code<T>(answer: Result<T, Refusal>) -> u8 {
+    answer.err().map_or(0, Refusal::code)
+}
+
+pub fn check_tables(tables: &Lent) -> (u8, usize) {
+    match calls::check_tables(lent(tables)) {
+        Ok(()) => (0, 0),
+        Err(unsound) => (unsound.refusal.code(), unsound.place),
     }
 }
 
-pub fn report(book: &[i64], lent: &Lent, account: i64) -> (u8, Five) {
-    let Lent { clearing, own, groups } = *lent;
-    let mut figures = [0; 5];
-    let code = unsafe {
-        single_limit_report(
-            book.as_ptr(),
-            book.len(),
-            clearing.as_ptr(),
-            clearing.len(),
-            own.as_ptr(),
-            own.len(),
-            groups.as_ptr(),
-            groups.len(),
-            account,
-            figures.as_mut_ptr(),
-            figures.len(),
-        )
-    };
-    (code, figures)
+pub fn order(book: &mut [i64], tables: &Lent, wanted: &Order) -> u8 {
+    let Order { account, asset, date, side, quantity, money } = *wanted;
+    let terms = single_limit::Order { asset, date, side, quantity, money };
+    code(calls::order(book, lent(tables), account, &terms))
+}
+
+pub fn report(book: &[i64], tables: &Lent, account: i64) -> (u8, Five) {
+    let answer = calls::report(book, lent(tables), account);
+    let Figures { valuation, market_risk, interest_risk, discount, limit } = answer.unwrap_or_default();
+    (code(answer), [valuation, market_risk, interest_risk, discount, limit])
 }

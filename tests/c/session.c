@@ -61,6 +61,31 @@ static void the_edge(void) {
     expect("the claim a day later", book[BLOCK + 17], 10);
 }
 
+/* A figures buffer that has not five numbers is code 1, and stays as it was. */
+static void other_figures_lengths(void) {
+    static const int64_t before[6] = {11, 12, 13, 14, 15, 16};
+    static const size_t lengths[4] = {0, 4, 6, 1};
+    for (int i = 0; i < 4; i++) {
+        int64_t figures[6];
+        memcpy(figures, before, sizeof before);
+        expect("a figures buffer of another length",
+               single_limit_report(book, BOOK, clearing, TABLE, own, TABLE, groups, GROUPS, 1, figures, lengths[i]), 1);
+        expect("the figures as they were", memcmp(figures, before, sizeof before), 0);
+    }
+}
+
+/* Row A passes the cover test. A wrong length or asset has no row that could. */
+static void covers(void) {
+    expect("row A", single_limit_covers(clearing, TABLE, own, TABLE, 0), 1);
+    expect("an unlisted asset", single_limit_covers(clearing, TABLE, own, TABLE, 1), 0);
+    expect("no asset", single_limit_covers(clearing, TABLE, own, TABLE, 16), 0);
+    expect("a short clearing table", single_limit_covers(clearing, TABLE - 1, own, TABLE, 0), 0);
+    expect("a short own table", single_limit_covers(clearing, TABLE, own, TABLE - 64, 0), 0);
+    clearing[12] = 9;
+    expect("a row that is not sound", single_limit_covers(clearing, TABLE, own, TABLE, 0), 0);
+    clearing[12] = 1;
+}
+
 static void refusals(void) {
     int64_t before[BOOK], figures[5] = {1, 2, 3, 4, 5};
     uint64_t place = 7;
@@ -70,6 +95,7 @@ static void refusals(void) {
     expect("account 16", report(16, figures), 3);
     expect("zeros", figures[0] | figures[1] | figures[2] | figures[3] | figures[4], 0);
     expect("account 2 is not open", report(2, figures), 4);
+    other_figures_lengths();
     expect("open twice", single_limit_open(book, BOOK, 0, 1), 5);
     expect("a move of nothing", move(0, 0, 0), 8);
     expect("more than there is", move(1, RUBLES, -21001), 9);
@@ -86,6 +112,7 @@ static void refusals(void) {
 int main(void) {
     the_session();
     the_edge();
+    covers();
     refusals();
     return failures != 0;
 }

@@ -48,23 +48,27 @@ pub fn is_zero(numbers: &[i64]) -> bool {
 /// The block rules.
 pub fn is_sound(block: &Block) -> bool {
     match block[KIND] {
-        NOT_OPEN => is_zero(block),
+        NOT_OPEN => is_zero(rule!(block; LastNumberOfClosedPasses => &block[..BLOCK - 1])),
         ORDINARY..=LISTED_POOL => {
-            block[RUBLES..NETS.end].iter().all(rubles_in_bounds)
-                && is_zero(&block[UNUSED])
-                && holdings(block).iter().all(holding_is_sound)
+            block[rule!(RUBLES..NETS.end; LastNetNotLookedAt => RUBLES..NETS.end - 1)].iter().all(rubles_in_bounds)
+                && is_zero(
+                    &block[rule!(UNUSED; Head10Passes => 11..16, Head13Passes => 14..16, Head15Passes => 10..15)],
+                )
+                && holdings(block)[rule!(0..ASSETS; LastHoldingNotLookedAt => 0..ASSETS - 1)]
+                    .iter()
+                    .all(holding_is_sound)
         }
-        _ => false,
+        _ => rule!(false; KindFourPasses => block[KIND] == 4),
     }
 }
 
 pub fn rubles_in_bounds(rubles: &i64) -> bool {
-    (-MOST_RUBLES..=MOST_RUBLES).contains(rubles)
+    rule!((-MOST_RUBLES..=MOST_RUBLES).contains(rubles); RublesBySize => rubles.wrapping_abs() <= MOST_RUBLES)
 }
 
 /// Collateral in units of an asset.
 pub fn collateral_in_bounds(units: &i64) -> bool {
-    (-MOST_UNITS..=MOST_UNITS).contains(units)
+    rule!((-MOST_UNITS..=MOST_UNITS).contains(units); UnitsBySize => units.wrapping_abs() <= MOST_UNITS)
 }
 
 /// A date's claims or obligations in units of an asset.
@@ -73,5 +77,6 @@ pub fn trades_in_bounds(units: &i64) -> bool {
 }
 
 fn holding_is_sound(holding: &Holding) -> bool {
-    collateral_in_bounds(&holding[COLLATERAL]) && holding[CLAIMS.start..].iter().all(trades_in_bounds)
+    collateral_in_bounds(&holding[COLLATERAL])
+        && holding[rule!(CLAIMS.start..HOLDING; ObligationsNotLookedAt => CLAIMS)].iter().all(trades_in_bounds)
 }

@@ -1,4 +1,4 @@
-//! The engine's session program as a process, fed through a pipe and compared with the library byte by byte.
+//! A program of the engine as a process, fed through a pipe and compared with the library byte by byte.
 
 use std::ffi::{c_int, c_ulong};
 use std::io::{self, ErrorKind, Write};
@@ -7,14 +7,33 @@ use std::process::{ChildStdin, Command, Output, Stdio};
 use std::thread;
 use std::time::{Duration, Instant};
 
-use crate::session::answers;
+use crate::{script, session};
 
-/// One session through both programs, the engine's input in pieces: hands back the answers, or says what differs.
-pub fn compare(program: &str, pieces: &[&[u8]]) -> Result<Vec<u8>, String> {
+/// What is asked of both programs.
+#[derive(Clone, Copy)]
+pub struct Language {
+    /// The end of a stored input's name.
+    pub end: &'static str,
+    /// The library's answers.
+    pub answers: fn(&[u8]) -> Vec<u8>,
+    /// Whether a line of the input gets an answer line.
+    pub is_asked: fn(&[u8]) -> bool,
+}
+
+pub const SESSIONS: Language = Language { end: "in", answers: session::answers, is_asked: |_| true };
+/// The words of calls are in small letters, those of other commands are not.
+pub const SCRIPTS: Language = Language {
+    end: "calls",
+    answers: script::answers,
+    is_asked: |line| line.first().is_some_and(u8::is_ascii_lowercase),
+};
+
+/// One input through both programs, the engine's in pieces: hands back the answers, or says what differs.
+pub fn compare(language: &Language, program: &str, pieces: &[&[u8]]) -> Result<Vec<u8>, String> {
     let input = pieces.concat();
     let output = run(program, pieces).map_err(|error| format!("{program}: {error}"))?;
-    let wanted = answers(&input);
-    if let Some(difference) = difference(&input, &wanted, &output.stdout) {
+    let wanted = (language.answers)(&input);
+    if let Some(difference) = difference(language, &input, &wanted, &output.stdout) {
         return Err(difference);
     }
     if !output.status.success() {
@@ -73,19 +92,26 @@ fn unread(pipe: &ChildStdin) -> io::Result<c_int> {
 }
 
 /// The first line that differs, with both answers.
-fn difference(input: &[u8], wanted: &[u8], answered: &[u8]) -> Option<String> {
+fn difference(language: &Language, input: &[u8], wanted: &[u8], answered: &[u8]) -> Option<String> {
     if wanted == answered {
         return None;
     }
-    let mut lines = [input, wanted, answered].map(|text| text.split_inclusive(|&byte| byte == b'\n'));
-    for number in 1.. {
-        let [line, wanted, answered] = lines.each_mut().map(|lines| lines.next());
-        if wanted != answered {
-            let [line, wanted, answered] = [line, wanted, answered].map(|line| text(line.unwrap_or(b"nothing")));
+    let mut asked = (1..).zip(lines(input)).filter(|(_, line)| (language.is_asked)(line));
+    let (mut wanted, mut answered) = (lines(wanted), lines(answered));
+    loop {
+        let (number, line) = asked.next().unwrap_or((0, b"nothing"));
+        let [wanted, answered] = [wanted.next(), answered.next()];
+        if wanted != answered || wanted.is_none() {
+            let [wanted, answered] = [wanted, answered].map(|line| text(line.unwrap_or(b"nothing")));
+            let line = text(line);
             return Some(format!("line {number}: {line}\n  the second program: {wanted}\n  the engine: {answered}"));
         }
     }
-    None
+}
+
+/// Each with its newline, which the last may lack.
+pub fn lines(text: &[u8]) -> impl Iterator<Item = &[u8]> {
+    text.split_inclusive(|&byte| byte == b'\n')
 }
 
 /// A line as it can be shown, cut short where it is long.

@@ -1,5 +1,5 @@
 //! The rules of document 01 in plain Rust, in the document's order: the second program that the engine is compared
-//! with, written from the document alone. Numbers are i64 as the document has them. Of a sound block under sound tables
+//! with, written from the document and the readings of it in docs/DECISIONS.md. Numbers are i64 as the document has them. Of a sound block under sound tables
 //! nothing on the way reaches 10^18, and every build stops at a sum or product that would wrap. Sums of unchecked
 //! numbers saturate, which leaves them past every bound, or are taken in 128 bits.
 
@@ -22,13 +22,16 @@ pub mod limit;
 pub mod market;
 pub mod valuation;
 
-// Calls and turning away; session lines.
+// Calls and turning away; session lines; call scripts.
 pub mod calls;
 pub mod frame;
+pub mod script;
 pub mod session;
 
 // What the comparison is made with.
 pub mod cases;
+pub mod compare;
 pub mod coverage;
 pub mod engine;
 pub mod generate;
+pub mod scripts;

@@ -24,8 +24,17 @@ pub struct Tables<'a> {
 impl<'a> Lent<'a> {
     /// None where a length is wrong.
     pub fn tables(&self) -> Option<Tables<'a>> {
-        Some(Tables { clearing: rows(self.clearing)?, own: rows(self.own)?, groups: self.groups.try_into().ok()? })
+        let clearing = rule!(self.clearing; LongClearingPasses => cut(self.clearing, TABLE));
+        let own = rule!(self.own; LongOwnPasses => cut(self.own, TABLE));
+        let groups = rule!(self.groups; LongGroupsPass => cut(self.groups, GROUPS));
+        Some(Tables { clearing: rows(clearing)?, own: rows(own)?, groups: groups.try_into().ok()? })
     }
+}
+
+/// For mutants: what stands beyond the right length is not looked at.
+#[cfg(test)]
+fn cut(numbers: &[i64], length: usize) -> &[i64] {
+    &numbers[..numbers.len().min(length)]
 }
 
 fn rows(table: &[i64]) -> Option<&[Row; ASSETS]> {

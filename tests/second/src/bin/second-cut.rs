@@ -41,7 +41,8 @@ fn cut_all(program: &str, seeds: std::ops::Range<u64>, lines: usize, paths: &[St
         for (number, input) in stored.iter().chain([&generated]).enumerate() {
             let pieces = cut(input, &mut random);
             let name = paths.get(number).map_or("the generated session", |path| path);
-            engine::compare(program, &pieces).map_err(|error| format!("seed {seed}, {name}, cut: {error}"))?;
+            engine::compare(&engine::SESSIONS, program, &pieces)
+                .map_err(|error| format!("seed {seed}, {name}, cut: {error}"))?;
             count += pieces.len();
         }
     }

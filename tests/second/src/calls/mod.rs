@@ -18,7 +18,7 @@ use std::mem;
 use crate::block::{self, Block, is_zero};
 use crate::limit::figures;
 use crate::tables::{Lent, Tables};
-use crate::units::{ACCOUNTS, BOOK};
+use crate::units::*;
 
 /// Why a call is turned away; its number is the code. Checked in the order 1, 2, 3, 6, 4, 5, 7, 8, 9, 10.
 #[derive(Clone, Copy, Debug, PartialEq)]
@@ -45,15 +45,21 @@ pub fn code<T>(answer: &Result<T, Refusal>) -> u8 {
 /// The call "check tables": its code, and the place of the first broken number with code 2, else 0.
 pub fn check_tables(lent: &Lent) -> (u8, usize) {
     match lent.tables().map(|tables| tables.first_broken()) {
-        None => (Refusal::WrongLength as u8, 0),
-        Some(Some(place)) => (Refusal::BrokenTable as u8, place),
+        None => (Refusal::WrongLength as u8, rule!(0; PlaceOfWrongLength => 1)),
+        Some(Some(place)) => (Refusal::BrokenTable as u8, named(place)),
         Some(None) => (DONE, 0),
     }
 }
 
+/// The place as the answer names it: counted over all three.
+fn named(place: usize) -> usize {
+    rule!(place; PlaceOffByOne => place + 1, PlaceWithinItsTable => place % TABLE)
+}
+
 /// Codes 1, 2 and 3 of a call that is lent tables: the tables and the account's number.
 fn first_look<'a>(book: &[i64], lent: &Lent<'a>, account: i64) -> Result<(Tables<'a>, usize), Refusal> {
-    refuse_unless(book.len() == BOOK, Refusal::WrongLength)?;
+    rule!((); TablesBeforeLengthOfBook => refuse_broken(lent)?);
+    refuse_unless(book_length_is_right(book), Refusal::WrongLength)?;
     let tables = lent.tables().ok_or(Refusal::WrongLength)?;
     rule!((); AccountBeforeTables => refuse_unless(account_number(account).is_ok(), Refusal::NoSuchAccount)?);
     refuse_unless(tables.first_broken().is_none(), Refusal::BrokenTable)?;
@@ -62,16 +68,30 @@ fn first_look<'a>(book: &[i64], lent: &Lent<'a>, account: i64) -> Result<(Tables
 
 /// Codes 1 and 3 of a call that is lent the book alone.
 fn first_look_at_book(book: &[i64], account: i64) -> Result<usize, Refusal> {
-    refuse_unless(book.len() == BOOK, Refusal::WrongLength)?;
+    rule!((); AccountBeforeLength => drop(account_number(account)?));
+    refuse_unless(book_length_is_right(book), Refusal::WrongLength)?;
     account_number(account)
 }
 
+fn book_length_is_right(book: &[i64]) -> bool {
+    rule!(book.len() == BOOK; LongBookPasses => book.len() >= BOOK)
+}
+
+/// For a mutant: code 2 asked before the book's length.
+#[cfg(test)]
+fn refuse_broken(lent: &Lent) -> Result<(), Refusal> {
+    let broken = lent.tables().is_some_and(|tables| tables.first_broken().is_some());
+    refuse_unless(!broken, Refusal::BrokenTable)
+}
+
 fn account_number(account: i64) -> Result<usize, Refusal> {
+    let account = rule!(account; AccountCutToByte => account & 255);
     index(account, ACCOUNTS).ok_or(Refusal::NoSuchAccount)
 }
 
 /// Codes 6 and 4. Where tables are lent, an unlisted asset held is 6 too.
 pub(crate) fn open_block(block: &Block, tables: Option<&Tables>) -> Result<(), Refusal> {
+    rule!((); NotOpenBeforeBroken => refuse_unless(block[block::KIND] != block::NOT_OPEN, Refusal::NotOpen)?);
     let sound = block::is_sound(block) && tables.is_none_or(|tables| holdings_are_listed(block, tables));
     refuse_unless(sound, Refusal::BrokenBlock)?;
     refuse_unless(block[block::KIND] != block::NOT_OPEN, Refusal::NotOpen)

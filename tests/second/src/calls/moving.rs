@@ -35,7 +35,7 @@ pub fn move_collateral(book: &mut [i64], lent: &Lent, wanted: &Move) -> Result<(
 impl Move {
     /// Code 7: the place of the collateral and the greatest size it may have.
     fn choice(&self, tables: &Tables) -> Result<(usize, i64), Refusal> {
-        if self.asset == RUBLES {
+        if rule!(self.asset; AssetOfMoveCutToByte => self.asset & 255) == RUBLES {
             return Ok((block::RUBLES, MOST_RUBLES));
         }
         let asset = index(self.asset, ASSETS).filter(|&asset| tables.is_listed(asset));

@@ -35,7 +35,9 @@ impl Order {
     /// Code 7: the asset and the date.
     pub(crate) fn choice(&self, tables: &Tables) -> Result<(usize, usize), Refusal> {
         let asset = index(self.asset, ASSETS).filter(|&asset| tables.is_listed(asset));
-        match (asset, index(self.date, DATES), self.side) {
+        let date = rule!(self.date; DateCutToByte => self.date & 255);
+        let side = rule!(self.side; SideCutToByte => self.side & 255);
+        match (asset, index(date, DATES), side) {
             (Some(asset), Some(date), BUY | SELL) => Ok((asset, date)),
             _ => {
                 rule!(Err(Refusal::NoSuchChoice); AmountBeforeChoice => self.amounts().and(Err(Refusal::NoSuchChoice)))

@@ -12,7 +12,7 @@ use crate::tables::clearing_place;
 const SORTS: [fn(&mut Script); 6] = [slips, other_lengths, other_kinds, other_bytes, additions, long_lines];
 
 pub fn session() -> Case {
-    let mut script = Script::new("session_malformed");
+    let mut script = Script::new("malformed-lines");
     lend_row_a(&mut script);
     buy_ten(&mut script, 0, 21_000, 0);
     for sort in SORTS {

@@ -1,14 +1,14 @@
-//! The stored cases: session inputs with the outputs document 01 gives them. The expected figures and codes are written
-//! down here from the document; nothing here asks the rules, but for the answers of one long session.
+//! The stored cases: session inputs and call scripts with their answers. Figures of S1 to S12, the two orders, the
+//! session and the cover test are document 01's own; the other answers are worked out by hand from its rules. Nothing here
+//! asks the second program's rules, but for the answers of one long session.
 
+mod calls;
 mod lines;
+mod long;
 mod malformed;
-mod programs;
 mod sums;
 
 pub use sums::{GROUP_ONE, Held, SUMS, Sum, row_a};
-
-pub use programs::programs;
 
 use crate::frame::Frame;
 
@@ -18,11 +18,25 @@ pub struct Case {
     pub output: Vec<u8>,
 }
 
-/// The cases of tests/cases.
-pub fn all() -> Vec<Case> {
+/// The sessions of tests/cases: NAME.in and NAME.out.
+pub fn sessions() -> Vec<Case> {
     let mut cases = lines::cases();
     cases.extend(sums::cases());
+    cases.extend([sums::session(), malformed::session(), long::session()]);
     cases
+}
+
+/// The call scripts of tests/cases: NAME.calls and NAME.answers.
+pub fn scripts() -> Vec<Case> {
+    calls::cases()
+}
+
+/// What the engine's session program is run on where it is proved, standard input and output of its crate: document 01's
+/// session, its last line without the newline.
+pub fn program() -> Case {
+    let mut case = lines::document();
+    case.input.pop();
+    Case { name: "session".to_string(), ..case }
 }
 
 /// A case being written, line by line.

@@ -1,5 +1,5 @@
-//! Document 01, "Sums to be met": S1 to S12, with the remark on S2, the two orders, and the rows of the cover test; each
-//! as a case of its own, and all of them in one session.
+//! Document 01, "Sums to be met": S1 to S12, with the remark on S2 and the two orders; each as a case of its own, and
+//! all of them in one session.
 
 use super::{Case, Script};
 use crate::block::{LISTED_POOL, ORDINARY, POOL};
@@ -65,7 +65,7 @@ const S11: &[Held] = &[Claim { asset: 0, date: 1, units: 10 }, Obligation { asse
 const S12_ROW: &[(usize, i64)] = &[(PRICE, 3), (FALL, 1), (RISE, 1), (RAISED_FALL, 1), (RAISED_RISE, 1)];
 
 #[rustfmt::skip]
-pub const SUMS: [Sum; 15] = [
+pub const SUMS: [Sum; 13] = [
     Sum { name: "s01", ..PLAIN },
     Sum { name: "s02", holding: S2, figures: [200_000, 40_000, 2_000, 0, 158_000], ..PLAIN },
     Sum { name: "s02-pool", account_kind: POOL, holding: S2, figures: [200_000, 40_000, 2_000, 0, 158_000], ..PLAIN },
@@ -85,11 +85,6 @@ pub const SUMS: [Sum; 15] = [
     Sum { name: "s11", assets: 2, holding: S11, figures: [0, 50_000, 3_000, 10_000, -43_000], ..PLAIN },
     Sum { name: "s12", changes: S12_ROW, dates_are_zero: true,
         holding: &[Claim { asset: 0, date: 1, units: 1 }], figures: [3, 1, 0, 0, 2], ..PLAIN },
-    // The two rows of the cover test, over S5: 100 at 2,000 and 50 at the raised fall.
-    Sum { name: "raised-fall-9700", changes: &[(RAISED_FALL, 9_700)], holding: S5,
-        figures: [1_500_000, 685_000, 20_000, 0, 795_000], ..PLAIN },
-    Sum { name: "raised-fall-9800", changes: &[(RAISED_FALL, 9_800)], holding: S5,
-        figures: [1_500_000, 690_000, 20_000, 0, 790_000], ..PLAIN },
 ];
 
 impl Sum {
@@ -210,7 +205,7 @@ fn two_orders() -> Case {
 /// One session for all of it: a sum to an account, and the two orders in the last one, the second a kopeck later. When
 /// every account has its holding, those under row A report once more, and nothing of the others' has touched them.
 pub fn session() -> Case {
-    let mut script = Script::new("session_sums");
+    let mut script = Script::new("sums");
     let mut rows = Rows::new();
     for (account, sum) in SUMS.iter().enumerate() {
         sum.play(&mut script, account as i64, &mut rows);

@@ -1,6 +1,6 @@
 //! Coverage of the calls: every code each can answer, two codes at once, the edge of the limit, the bounds of a block.
 
-use super::{Step, tally::Tally};
+use super::{Step, account_of, tally::Tally};
 use crate::asset::Asset;
 use crate::block::{self, Block, COLLATERAL, holding_start};
 use crate::calls::{self, BUY, Change, DONE, Move, Order, RUBLES, Refusal, make};
@@ -37,10 +37,14 @@ const NO_ASSET: i64 = ASSETS as i64;
 const OUT_OF_BOUNDS: u8 = Refusal::OutOfBounds as u8;
 const LIMIT_BELOW_ZERO: u8 = Refusal::LimitBelowZero as u8;
 
-pub fn expect(tally: &mut Tally) {
+/// The codes that sessions show.
+pub fn expect_codes(tally: &mut Tally) {
     for (call, codes) in CODES {
         tally.expect(call, codes);
     }
+}
+
+pub fn expect(tally: &mut Tally) {
     tally.expect(PAIR, PAIRS);
     let calls = ["order", "withdrawal of rubles", "withdrawal of units"];
     tally.expect(EDGE, calls.iter().flat_map(|call| EDGES.map(|edge| format!("{call}: {edge}"))));
@@ -80,17 +84,13 @@ fn count_edge<const COUNT: usize>(call: &str, step: &Step, block: &Block, change
     if ![DONE, LIMIT_BELOW_ZERO].contains(&step.code) {
         return;
     }
-    let edge = match (limit_after(block, changes, &tables(step)), step.code) {
+    let edge = match (limit_after(block, changes, &step.before.tables()), step.code) {
         (-1, LIMIT_BELOW_ZERO) => EDGES[0],
         (0, DONE) => EDGES[1],
         (1, DONE) => EDGES[2],
         _ => return,
     };
     tally.count(EDGE, format!("{call}: {edge}"));
-}
-
-fn tables<'a>(step: &Step<'a>) -> Tables<'a> {
-    step.before.lent().tables().expect("the session's tables have their lengths")
 }
 
 fn limit_after<const COUNT: usize>(block: &Block, changes: [Change; COUNT], tables: &Tables) -> i64 {
@@ -101,9 +101,9 @@ fn limit_after<const COUNT: usize>(block: &Block, changes: [Change; COUNT], tabl
 
 pub fn count_order(step: &Step, order: &Order, tally: &mut Tally) {
     count_pair(step, order, tally);
-    let tables = tables(step);
-    let (true, Ok((asset, date))) = (order.account < ACCOUNTS as i64, order.choice(&tables)) else { return };
-    let block = step.before.block(order.account as usize);
+    let tables = step.before.tables();
+    let (Some(account), Ok((asset, date))) = (account_of(order.account), order.choice(&tables)) else { return };
+    let block = step.before.block(account);
     let changes = order.changes(block, asset, date);
     let units = if order.side == BUY { "claim" } else { "obligation" };
     let [trade, net] = changes.map(|change| change.after);
@@ -116,7 +116,7 @@ pub fn count_order(step: &Step, order: &Order, tally: &mut Tally) {
             let holding = &block::holdings(block)[asset];
             Asset::new(block[block::KIND], tables.row_in_force(asset), holding).position_sum().signum()
         };
-        let turn = match (sum(block), sum(step.after.block(order.account as usize))) {
+        let turn = match (sum(block), sum(step.after.block(account))) {
             (-1, 1) => "to positive",
             (1, -1) => "to negative",
             (-1 | 1, 0) => "to zero",
@@ -128,20 +128,20 @@ pub fn count_order(step: &Step, order: &Order, tally: &mut Tally) {
 
 /// The first two codes that apply to an order, of which the first is to be given.
 fn count_pair(step: &Step, order: &Order, tally: &mut Tally) {
-    let tables = tables(step);
+    let tables = step.before.tables();
     let mut codes = Vec::new();
     codes.extend(tables.first_broken().map(|_| Refusal::BrokenTable));
-    if order.account >= ACCOUNTS as i64 {
-        codes.push(Refusal::NoSuchAccount);
-    } else {
-        codes.extend(calls::open_block(step.before.block(order.account as usize), Some(&tables)).err());
+    let account = account_of(order.account);
+    match account {
+        None => codes.push(Refusal::NoSuchAccount),
+        Some(account) => codes.extend(calls::open_block(step.before.block(account), Some(&tables)).err()),
     }
-    let ready = codes.is_empty();
+    let account = account.filter(|_| codes.is_empty());
     let choice = order.choice(&tables);
     codes.extend(choice.err());
     codes.extend(order.amounts().err());
-    if let (true, Ok((asset, date))) = (ready, choice) {
-        let block = step.before.block(order.account as usize);
+    if let (Some(account), Ok((asset, date))) = (account, choice) {
+        let block = step.before.block(account);
         let changes = order.changes(block, asset, date);
         codes.extend(calls::leave_in_bounds(changes).err());
         let judged = order.amounts().is_ok() && limit_after(block, changes, &tables) < 0;
@@ -154,7 +154,7 @@ fn count_pair(step: &Step, order: &Order, tally: &mut Tally) {
 }
 
 pub fn count_move(step: &Step, wanted: &Move, tally: &mut Tally) {
-    let Some(account) = usize::try_from(wanted.account).ok().filter(|&account| account < ACCOUNTS) else { return };
+    let Some(account) = account_of(wanted.account) else { return };
     let block = step.before.block(account);
     let (what, place, most) = match wanted.asset {
         RUBLES => ("rubles", block::RUBLES, MOST_RUBLES),
@@ -170,7 +170,7 @@ pub fn count_move(step: &Step, wanted: &Move, tally: &mut Tally) {
     } else if [DONE, OUT_OF_BOUNDS].contains(&step.code) {
         count_bounds(&format!("deposit of {what}"), after, [i64::MIN + 1, most], step.code, tally);
         tally.count_if(step.code == DONE && after < 0, MOVE, "deposit that leaves less than 0");
-        let limit = limit_after(block, [Change { place, after }], &tables(step));
+        let limit = limit_after(block, [Change { place, after }], &step.before.tables());
         tally.count_if(step.code == DONE && limit < 0, MOVE, "deposit below a limit of 0");
     }
 }
@@ -186,7 +186,7 @@ pub fn count_roll(step: &Step, account: i64, tally: &mut Tally) {
         let units = holding[COLLATERAL] + holding[block::CLAIMS.start] - holding[block::OBLIGATIONS.start];
         count_bounds("rolled units", units, [-MOST_UNITS, MOST_UNITS], step.code, tally);
     }
-    let unlisted = calls::open_block(block, Some(&tables(step))).is_err();
+    let unlisted = calls::open_block(block, Some(&step.before.tables())).is_err();
     tally.count_if(unlisted && step.code == DONE, ROLL, "with an unlisted holding");
     let later = block[block::NETS.start + 1..block::NETS.end].iter().any(|&net| net != 0);
     tally.count_if(later && step.code == DONE, ROLL, "with later dates to move");

@@ -55,7 +55,7 @@ pub fn count(step: &Step, account: i64, tally: &mut Tally) {
     if step.code != DONE {
         return;
     }
-    let tables = step.before.lent().tables().expect("the session's tables have their lengths");
+    let tables = step.before.tables();
     let block = step.before.block(account as usize);
     tally.count(ACCOUNT, block[block::KIND]);
     let mut spreads = Spreads::default();

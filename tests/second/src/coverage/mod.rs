@@ -1,22 +1,30 @@
-//! What generated sessions reach, counted by replaying them: codes, rules of the tables, figures, edges, forms of
-//! lines.
+//! What generated sessions and scripts reach, counted by replaying them: codes, rules of the tables, figures, edges, forms
+//! of lines, and what only scripts show.
 
 mod calls;
 mod figures;
 mod lines;
+mod script_arguments;
+mod script_blocks;
+mod script_cover;
+pub mod scripts;
 mod tables;
 mod tally;
 
 pub use tally::Tally;
 
+use crate::block::Block;
 use crate::calls::{DONE, Move};
 use crate::frame::Frame;
 use crate::generate;
 use crate::session::Session;
+use crate::tables::{Lent, Tables};
+use crate::units::{ACCOUNTS, BLOCK};
 
-/// All that is to be reached.
+/// All that sessions are to reach.
 pub fn expected() -> Tally {
     let mut tally = Tally::default();
+    calls::expect_codes(&mut tally);
     calls::expect(&mut tally);
     tables::expect(&mut tally);
     figures::expect(&mut tally);
@@ -24,12 +32,38 @@ pub fn expected() -> Tally {
     tally
 }
 
-/// A line's frame and code, with the session as it was before it and after it.
+/// A call's frame and code, with the book and the tables as they were before it and after it.
 struct Step<'a> {
     frame: &'a Frame,
     code: u8,
-    before: &'a Session,
-    after: &'a Session,
+    before: State<'a>,
+    after: State<'a>,
+}
+
+/// A book and tables of the right lengths.
+#[derive(Clone, Copy)]
+struct State<'a> {
+    book: &'a [i64],
+    lent: Lent<'a>,
+}
+
+impl<'a> State<'a> {
+    fn of(session: &'a Session) -> State<'a> {
+        State { book: session.book(), lent: session.lent() }
+    }
+
+    fn block(&self, account: usize) -> &'a Block {
+        &self.book.as_chunks::<BLOCK>().0[account]
+    }
+
+    fn tables(&self) -> Tables<'a> {
+        self.lent.tables().expect("tables of the right lengths")
+    }
+}
+
+/// The account as a number of a block, if it is one.
+fn account_of(account: i64) -> Option<usize> {
+    usize::try_from(account).ok().filter(|&account| account < ACCOUNTS)
 }
 
 /// Counts what the session of a seed reaches.
@@ -46,7 +80,7 @@ pub fn count(seed: u64, lines: usize, tally: &mut Tally) {
             lines::count_form(line, tally);
             continue;
         };
-        let step = Step { frame: &frame, code, before: &before, after: &session };
+        let step = Step { frame: &frame, code, before: State::of(&before), after: State::of(&session) };
         count_step(&step, &mut touched, tally);
     }
 }
@@ -61,7 +95,7 @@ fn count_step(step: &Step, touched: &mut Vec<usize>, tally: &mut Tally) {
             return;
         }
         Frame::Open { .. } => return,
-        Frame::Roll { account } => return calls::count_roll(step, account, tally),
+        Frame::Roll { .. } => return count_call(step, tally),
         Frame::Move(Move { amount, .. }) => lines::count_extreme("move", amount, tally),
         Frame::Order(ref order) => {
             lines::count_extreme("quantity", order.quantity, tally);
@@ -69,12 +103,18 @@ fn count_step(step: &Step, touched: &mut Vec<usize>, tally: &mut Tally) {
         }
         Frame::Report { .. } => {}
     }
-    tables::count(step, touched, tally);
+    tables::count(&step.before.tables(), touched, tally);
     touched.clear();
+    count_call(step, tally);
+}
+
+/// What a call with tables of the right lengths reaches.
+fn count_call(step: &Step, tally: &mut Tally) {
     match *step.frame {
         Frame::Move(ref wanted) => calls::count_move(step, wanted, tally),
         Frame::Order(ref wanted) => calls::count_order(step, wanted, tally),
+        Frame::Roll { account } => calls::count_roll(step, account, tally),
         Frame::Report { account } => figures::count(step, account, tally),
-        _ => {}
+        Frame::Set { .. } | Frame::Open { .. } => {}
     }
 }

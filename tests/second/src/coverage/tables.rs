@@ -1,6 +1,6 @@
 //! Coverage of the table check: each number found broken first, and each bound seen from both sides.
 
-use super::{Step, tally::Tally};
+use super::tally::Tally;
 use crate::generate::bounds_at;
 use crate::row::{Bounds, KIND, UNLISTED};
 use crate::tables::{Tables, group_place, own_place};
@@ -33,14 +33,13 @@ pub fn expect(tally: &mut Tally) {
 }
 
 /// Looks at the places set since the tables were last looked at.
-pub fn count(step: &Step, touched: &[usize], tally: &mut Tally) {
-    let tables = step.before.lent().tables().expect("the session's tables have their lengths");
+pub fn count(tables: &Tables, touched: &[usize], tally: &mut Tally) {
     let broken = tables.first_broken();
     if let Some(place) = broken {
-        count_broken(&tables, place, tally);
+        count_broken(tables, place, tally);
     }
     for &place in touched.iter().filter(|&&place| broken.is_none_or(|broken| broken == place)) {
-        count_bounds(&tables, place, tally);
+        count_bounds(tables, place, tally);
     }
 }
 

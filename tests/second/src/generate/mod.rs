@@ -12,7 +12,7 @@ mod trades;
 
 pub use faults::HUGE;
 pub use random::Random;
-pub use rows::bounds_at;
+pub use rows::{bounds_at, draw as draw_row, settle};
 
 use maker::Maker;
 

@@ -18,7 +18,7 @@ pub const EXTREMES: [i64; 6] =
     [i64::MIN, i64::MIN + 1, i64::MIN + MOST_PRICE, i64::MAX, i64::MAX - 1, i64::MAX - MOST_PRICE];
 
 /// A row within the rules.
-fn draw(random: &mut Random, kind: i64, group: i64) -> Row {
+pub fn draw(random: &mut Random, kind: i64, group: i64) -> Row {
     let mut row = [0; ROW];
     row[KIND] = kind;
     row[PRICE] = random.pick(&[1, 3, 10_000, MOST_PRICE, 0]);
@@ -70,7 +70,7 @@ fn draw_date(random: &mut Random, row: &mut Row, date: usize) {
 }
 
 /// Brings each number within its bounds, by rising number.
-fn settle(row: &mut Row) {
+pub fn settle(row: &mut Row) {
     for number in 0..ROW {
         let Bounds { lowest, highest } = row::bounds(row)[number];
         row[number] = row[number].clamp(lowest, highest);

@@ -1,8 +1,10 @@
-//! The library's tests: document 01's sums and session, the table check, the calls, and session lines.
+//! The library's tests: document 01's sums and session, the table check, the calls, session lines and call
+//! scripts.
 
 mod blocks;
 mod calls;
 mod cases;
+mod script;
 mod session;
 mod sums;
 mod tables;

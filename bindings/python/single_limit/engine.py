@@ -1,0 +1,113 @@
+"""Book and tables, with the engine's calls."""
+
+import ctypes
+from array import array
+from typing import NamedTuple
+
+from . import names
+from .face import call, lent, number
+from .refusal import Refused
+
+
+def zeros(length):
+    return array("q", bytes(8 * length))
+
+
+def passed(code, place=0):
+    if code != 0:
+        raise Refused(code, place)
+
+
+class Figures(NamedTuple):
+    """What a report says, in kopecks."""
+
+    valuation: int
+    market_risk: int
+    interest_risk: int
+    discount: int
+    limit: int
+
+
+class Tables:
+    """The clearing table, our own table and the groups, each an array('q'); all zero at first, which is sound.
+
+    A row with a kind and a price alone is sound and has no risk: the table check cannot tell that a rate is missing."""
+
+    def __init__(self):
+        self.clearing = zeros(names.TABLE_LENGTH)
+        self.own = zeros(names.TABLE_LENGTH)
+        self.groups = zeros(names.GROUPS_LENGTH)
+
+    def lent(self):
+        return lent(self.clearing, self.own, self.groups)
+
+    def check(self):
+        """Are they sound? If not, the place of the first broken number comes with the refusal."""
+        place = ctypes.c_uint64()
+        passed(call("check_tables", *self.lent(), ctypes.byref(place)), place.value)
+
+    def covers(self, asset):
+        """The cover test: whether the row in force of that asset is sound and passes it."""
+        return call("covers", *lent(self.clearing, self.own), number(asset)) == 1
+
+
+class Book:
+    """Sixteen accounts, none open at first. `numbers` is an array('q') of all blocks. A refused call raises Refused and alters nothing."""
+
+    def __init__(self):
+        self.numbers = zeros(names.BOOK_LENGTH)
+
+    def open(self, account, kind):
+        """Open an account of a kind (ACCOUNT_ORDINARY, ACCOUNT_POOL, ACCOUNT_POOL_OF_THE_LIST)."""
+        passed(call("open", *lent(self.numbers), number(account), number(kind)))
+
+    def move(self, tables, account, asset, amount):
+        """Move collateral of an asset, or of RUBLES: a positive amount deposits, a negative one withdraws."""
+        wanted = map(number, (account, asset, amount))
+        passed(call("move", *lent(self.numbers), *tables.lent(), *wanted))
+
+    def order(self, tables, account, asset, date, side, quantity, money):
+        """Order: side BUY or SELL, money of the whole order. Booked as a trade at once where it is admitted."""
+        wanted = map(number, (account, asset, date, side, quantity, money))
+        passed(call("order", *lent(self.numbers), *tables.lent(), *wanted))
+
+    def roll(self, account):
+        """Roll an account to the next day. All or nothing."""
+        passed(call("roll", *lent(self.numbers), number(account)))
+
+    def report(self, tables, account):
+        """The five figures of an account."""
+        figures = zeros(names.FIGURES_LENGTH)
+        passed(call("report", *lent(self.numbers), *tables.lent(), number(account), *lent(figures)))
+        return Figures(*figures)
+
+
+def row_at(asset, row_number):
+    """Where a number of an asset's row (ROW_...) stands in a table."""
+    return names.ROW_LENGTH * asset + row_number
+
+
+def date_at(asset, date, date_number):
+    """Where a number of a date of an asset's row (DATE_...) stands in a table."""
+    return row_at(asset, names.ROW_DATES + names.DATE_LENGTH * date + date_number)
+
+
+def block_at(account, block_number):
+    """Where a number of an account's block (BLOCK_...) stands in a book."""
+    return names.BLOCK_LENGTH * account + block_number
+
+
+def ruble_net_at(account, date):
+    return block_at(account, names.BLOCK_RUBLE_NETS + date)
+
+
+def collateral_at(account, asset):
+    return block_at(account, names.BLOCK_HOLDINGS + names.HOLDING_LENGTH * asset)
+
+
+def claim_at(account, asset, date):
+    return collateral_at(account, asset) + names.HOLDING_CLAIMS + date
+
+
+def obligation_at(account, asset, date):
+    return collateral_at(account, asset) + names.HOLDING_OBLIGATIONS + date

@@ -1,0 +1,44 @@
+"""Why a call was turned away."""
+
+from enum import IntEnum
+
+
+class Code(IntEnum):
+    """The codes of a refusal, by the header's names. They are looked for in the order 1, 2, 3, 6, 4, 5, 7, 8, 9, 10."""
+
+    WRONG_LENGTH = 1
+    BROKEN_NUMBER = 2
+    NO_ACCOUNT = 3
+    NOT_OPEN = 4
+    ALREADY_OPEN = 5
+    BROKEN_BLOCK = 6
+    WRONG_CHOICE = 7
+    WRONG_AMOUNT = 8
+    OUT_OF_BOUNDS = 9
+    NEGATIVE_LIMIT = 10
+
+
+WORDS = {
+    Code.WRONG_LENGTH: "a lent length is wrong",
+    Code.BROKEN_NUMBER: "the table check finds a broken number",
+    Code.NO_ACCOUNT: "account number not 0 to 15",
+    Code.NOT_OPEN: "account not open",
+    Code.ALREADY_OPEN: "open on an open account",
+    Code.BROKEN_BLOCK: "block breaks the block rules; where tables are lent, also a nonzero holding in an unlisted asset",
+    Code.WRONG_CHOICE: "asset unlisted or not 0 to 15 (a move also takes 255, rubles), date not 0 to 7, side not 0 or 1, "
+    "account kind to open not 1 to 3",
+    Code.WRONG_AMOUNT: "quantity not 1 to 10^6; order money not 0 to 10^14; "
+    "move 0, or beyond 10^6 either way (10^14 for rubles)",
+    Code.OUT_OF_BOUNDS: "a number would leave its bounds, or a withdrawal would leave collateral below 0",
+    Code.NEGATIVE_LIMIT: "limit after an order or withdrawal would be negative",
+}
+
+
+class Refused(Exception):
+    """A call was turned away and nothing was altered. `code` says why; `place` is that of the first broken number where Tables.check
+    answered BROKEN_NUMBER, else 0."""
+
+    def __init__(self, code, place=0):
+        self.code = Code(code)
+        self.place = place
+        super().__init__(WORDS[self.code])

@@ -1,0 +1,111 @@
+//! Why a call was turned away.
+
+use std::error::Error;
+use std::fmt;
+
+/// A code other than 0, by name; shown in the header's words. They are looked for in the order 1, 2, 3, 6, 4, 5, 7, 8, 9, 10.
+#[derive(Clone, Copy, Debug, PartialEq, Eq, Hash)]
+#[repr(u8)]
+pub enum Refusal {
+    /// A lent length is wrong. A `Book` and `Tables` never have one.
+    WrongLength = 1,
+    /// The table check finds a broken number.
+    BrokenNumber = 2,
+    /// The account number is not 0 to 15.
+    NoAccount = 3,
+    /// The account is not open.
+    NotOpen = 4,
+    /// Open on an open account.
+    AlreadyOpen = 5,
+    /// The block breaks the block rules, or holds something of an unlisted asset.
+    BrokenBlock = 6,
+    /// An asset, a date, a side or a kind that there is not.
+    WrongChoice = 7,
+    /// A quantity, a sum of money or a move outside its bounds.
+    WrongAmount = 8,
+    /// A number would leave its bounds, or a withdrawal would leave collateral below 0.
+    OutOfBounds = 9,
+    /// The limit after an order or a withdrawal would be negative.
+    NegativeLimit = 10,
+}
+
+impl Refusal {
+    /// Every refusal, by rising code.
+    pub const ALL: [Refusal; 10] = [
+        Refusal::WrongLength,
+        Refusal::BrokenNumber,
+        Refusal::NoAccount,
+        Refusal::NotOpen,
+        Refusal::AlreadyOpen,
+        Refusal::BrokenBlock,
+        Refusal::WrongChoice,
+        Refusal::WrongAmount,
+        Refusal::OutOfBounds,
+        Refusal::NegativeLimit,
+    ];
+
+    /// The code of document 01.
+    pub fn code(self) -> u8 {
+        self as u8
+    }
+
+    /// The code in words.
+    pub fn words(self) -> &'static str {
+        match self {
+            Refusal::WrongLength => "a lent length is wrong",
+            Refusal::BrokenNumber => "the table check finds a broken number",
+            Refusal::NoAccount => "account number not 0 to 15",
+            Refusal::NotOpen => "account not open",
+            Refusal::AlreadyOpen => "open on an open account",
+            Refusal::BrokenBlock => {
+                "block breaks the block rules; where tables are lent, also a nonzero holding in an unlisted asset"
+            }
+            Refusal::WrongChoice => {
+                "asset unlisted or not 0 to 15 (a move also takes 255, rubles), date not 0 to 7, side not 0 or 1, \
+                 account kind to open not 1 to 3"
+            }
+            Refusal::WrongAmount => {
+                "quantity not 1 to 10^6; order money not 0 to 10^14; move 0, or beyond 10^6 either way (10^14 for rubles)"
+            }
+            Refusal::OutOfBounds => "a number would leave its bounds, or a withdrawal would leave collateral below 0",
+            Refusal::NegativeLimit => "limit after an order or withdrawal would be negative",
+        }
+    }
+}
+
+impl fmt::Display for Refusal {
+    fn fmt(&self, to: &mut fmt::Formatter<'_>) -> fmt::Result {
+        to.write_str(self.words())
+    }
+}
+
+impl Error for Refusal {}
+
+/// What a code says. The engine's contracts leave no code above 10, so another one means an archive of another version.
+pub(crate) fn answer(code: u8) -> Result<(), Refusal> {
+    match code {
+        0 => Ok(()),
+        1..=10 => Err(Refusal::ALL[code as usize - 1]),
+        _ => panic!("code {code} is not of this version of the engine"),
+    }
+}
+
+/// What the table check answers where the tables are not sound.
+#[derive(Clone, Copy, Debug, PartialEq, Eq)]
+pub struct Unsound {
+    /// `BrokenNumber`, or `WrongLength` of slices.
+    pub refusal: Refusal,
+    /// With `BrokenNumber` the place of the first broken number: clearing 0 to 1023, own 1024 to 2047, groups 2048 to 2055. Else 0.
+    pub place: usize,
+}
+
+impl fmt::Display for Unsound {
+    fn fmt(&self, to: &mut fmt::Formatter<'_>) -> fmt::Result {
+        match self.refusal {
+            Refusal::BrokenNumber => write!(to, "{}, place {}", self.refusal, self.place),
+            other => other.fmt(to),
+        }
+    }
+}
+
+impl Error for Unsound {}

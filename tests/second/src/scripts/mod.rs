@@ -1,0 +1,47 @@
+//! Call scripts that reach what sessions cannot: hand-made books and tables, every place of the tables, every number of
+//! a block, wrong lengths, arguments of any size, and two grounds of refusal at once. The same bytes for the same seed.
+
+mod arguments;
+mod blocks;
+mod books;
+mod cover;
+mod edges;
+mod lengths;
+mod maker;
+mod pairs;
+mod places;
+mod sessions;
+
+pub use blocks::bounds_of;
+pub use pairs::{CALLS as PAIRS, title as pair};
+
+use maker::Maker;
+
+/// So many seeds one after another share out all places of the tables and all numbers of a block.
+pub const SHARES: u64 = 66;
+
+/// A script, and which pairs of grounds it showed, each alone and both at once.
+pub struct Script {
+    pub text: Vec<u8>,
+    pub pairs: Vec<String>,
+}
+
+pub fn script(seed: u64) -> Script {
+    let mut maker = Maker::new(seed);
+    for scene in [
+        places::every_row_there,
+        places::no_row_there,
+        blocks::damaged,
+        blocks::unlisted_holdings,
+        lengths::scene,
+        pairs::scene,
+        cover::scene,
+        arguments::scene,
+        books::scene,
+        sessions::scene,
+    ] {
+        maker.reset();
+        scene(&mut maker);
+    }
+    maker.into_script()
+}

@@ -1,0 +1,216 @@
+//! Two grounds of refusal at once: the earlier in document 01's table answers. Each ground is shown alone first, so that
+//! both are known to be there.
+
+use super::maker::Maker;
+use crate::block::{self, LISTED_POOL, ORDINARY, holding_start};
+use crate::calls::{BUY, Move, Order, SELL};
+use crate::cases::{GROUP_ONE, row_a};
+use crate::generate::Random;
+use crate::script::{Buffer, Buffers, Command};
+use crate::units::*;
+
+/// Each call, and the pairs of codes whose grounds can be there at once, the earlier first. The others cannot: an account
+/// that is not there has no block that could break, be closed, leave its bounds or have a limit; an empty block leaves no
+/// bounds by a good order; and a withdrawal of a wrong asset or amount, or from an empty block, leaves no limit to judge.
+#[rustfmt::skip]
+pub const CALLS: [(&str, &[(u8, u8)]); 6] = [
+    ("check", &[(1, 2)]),
+    ("open", &[(1, 3), (1, 6), (1, 5), (1, 7), (3, 7), (6, 7), (5, 7)]),
+    ("move", &[(1, 2), (1, 3), (1, 6), (1, 4), (1, 7), (1, 8), (1, 9), (1, 10), (2, 3), (2, 6), (2, 4), (2, 7), (2, 8),
+        (2, 9), (2, 10), (3, 7), (3, 8), (6, 4), (6, 7), (6, 8), (6, 9), (6, 10), (4, 7), (4, 8), (4, 9), (7, 8),
+        (7, 9), (8, 9), (9, 10)]),
+    ("order", &[(1, 2), (1, 3), (1, 6), (1, 4), (1, 7), (1, 8), (1, 9), (1, 10), (2, 3), (2, 6), (2, 4), (2, 7), (2, 8),
+        (2, 9), (2, 10), (3, 7), (3, 8), (6, 4), (6, 7), (6, 8), (6, 9), (6, 10), (4, 7), (4, 8), (4, 10), (7, 8),
+        (7, 9), (7, 10), (8, 9), (8, 10), (9, 10)]),
+    ("roll", &[(1, 3), (1, 6), (1, 4), (1, 9), (6, 4), (6, 9)]),
+    ("report", &[(1, 2), (1, 3), (1, 6), (1, 4), (2, 3), (2, 6), (2, 4), (6, 4)]),
+];
+
+/// So many seeds share out the pairs.
+const SHARES: u64 = 6;
+/// Faults of the block come before those of the call, and its emptying before all.
+const MAKING: [u8; 10] = [4, 5, 6, 9, 10, 7, 8, 3, 2, 1];
+/// An asset without a row.
+const UNLISTED: usize = 1;
+/// What an account of `world` has of asset 0, and owes at date 0.
+const HELD: i64 = 100;
+
+pub fn title(call: &str, first: u8, second: u8) -> String {
+    format!("{call}: {first} before {second}")
+}
+
+pub fn scene(maker: &mut Maker) {
+    let pairs: Vec<_> = CALLS.iter().flat_map(|(call, pairs)| pairs.iter().map(move |pair| (*call, *pair))).collect();
+    for (call, (first, second)) in maker.share_of(pairs.len(), SHARES).map(|at| pairs[at]) {
+        let good = Situation::new(maker, call, first == 7);
+        for (grounds, code) in [(&[first][..], first), (&[second], second), (&[first, second], first)] {
+            let mut situation = good.clone();
+            for ground in MAKING.into_iter().filter(|ground| grounds.contains(ground)) {
+                situation.spoil(&mut maker.random, ground, grounds);
+            }
+            maker.lend(&situation.buffers);
+            let answer = maker.call(situation.command).code();
+            assert_eq!(answer, code, "{} with grounds {grounds:?}", situation.command);
+        }
+        maker.note_pair(title(call, first, second));
+    }
+}
+
+/// An account under row A that could do with a unit less, or trade one; a good order and a good withdrawal.
+pub fn world(maker: &mut Maker, account: usize) -> (Buffers, Order, Move) {
+    let mut buffers = Buffers::default();
+    buffers.numbers_mut(Buffer::Clearing)[..ROW].copy_from_slice(&row_a());
+    if maker.random.percent(50) {
+        buffers.numbers_mut(Buffer::Own)[..ROW].copy_from_slice(&row_a());
+    }
+    buffers.numbers_mut(Buffer::Groups)[0] = GROUP_ONE;
+    let block = buffers.block_mut(account);
+    block[block::KIND] = ORDINARY;
+    block[block::RUBLES] = 1_000_000_000;
+    block[holding_start(0)] = HELD;
+    block[holding_start(0) + block::OBLIGATIONS.start] = HELD;
+    let date = maker.random.below(DATES) as i64;
+    let account = account as i64;
+    let order = Order { account, asset: 0, date, side: BUY, quantity: 1, money: 10_000 };
+    (buffers, order, Move { account, asset: 0, amount: -1 })
+}
+
+#[derive(Clone)]
+struct Situation {
+    buffers: Buffers,
+    account: usize,
+    command: Command,
+}
+
+impl Situation {
+    /// One in which the call is done.
+    fn new(maker: &mut Maker, call: &str, buys: bool) -> Situation {
+        let account = maker.random.below(ACCOUNTS);
+        let (mut buffers, mut order, moved) = world(maker, account);
+        if !buys && maker.random.percent(50) {
+            (order.side, order.money) = (SELL, 0);
+        }
+        let number = account as i64;
+        let command = match call {
+            "check" => Command::Check,
+            "open" => Command::Open { account: number, kind: maker.random.between(ORDINARY, LISTED_POOL) },
+            "move" => Command::Move(moved),
+            "order" => Command::Order(order),
+            "roll" => Command::Roll { account: number },
+            _ => Command::Report { account: number },
+        };
+        if let Command::Open { .. } = command {
+            buffers.block_mut(account).fill(0);
+        }
+        Situation { buffers, account, command }
+    }
+
+    /// Brings in the ground of a code; `grounds` are all that are to be there.
+    fn spoil(&mut self, random: &mut Random, code: u8, grounds: &[u8]) {
+        let block = self.buffers.block_mut(self.account);
+        match code {
+            1 => self.spoil_length(random),
+            2 => self.spoil_tables(random),
+            3 => self.spoil_account(random),
+            4 => block.fill(0),
+            5 => block[block::KIND] = random.between(ORDINARY, LISTED_POOL),
+            6 => self.spoil_block(random, grounds),
+            7 => self.spoil_choice(random, grounds),
+            8 => self.spoil_amount(random, grounds),
+            9 => self.spoil_bounds(random),
+            _ => block[block::RUBLES] = 0,
+        }
+    }
+
+    fn spoil_length(&mut self, random: &mut Random) {
+        let buffer = random.pick(self.command.lent());
+        let length = buffer.right_length();
+        // What stands there is not cut: the other ground may be in it.
+        self.buffers.resize(buffer, random.pick(&[length + 1, length + BLOCK, 2 * length]));
+    }
+
+    fn spoil_tables(&mut self, random: &mut Random) {
+        let (buffer, number) = random.pick(&[
+            (Buffer::Groups, GROUPS - 1),
+            (Buffer::Own, ROW * UNLISTED + 7),
+            (Buffer::Clearing, ROW * (ASSETS - 1) + 63),
+        ]);
+        self.buffers.numbers_mut(buffer)[number] = random.pick(&[51, i64::MIN, i64::MAX]);
+    }
+
+    fn spoil_account(&mut self, random: &mut Random) {
+        let wrong = random.pick(&[-1, ACCOUNTS as i64, 255, i64::MIN, i64::MAX]);
+        match &mut self.command {
+            Command::Open { account, .. } | Command::Roll { account } | Command::Report { account } => *account = wrong,
+            Command::Move(wanted) => wanted.account = wrong,
+            Command::Order(wanted) => wanted.account = wrong,
+            _ => unreachable!("a call without an account"),
+        }
+    }
+
+    fn spoil_block(&mut self, random: &mut Random, grounds: &[u8]) {
+        let lends_tables = self.command.lent().len() > 1;
+        let block = self.buffers.block_mut(self.account);
+        let head = random.between(10, 15) as usize;
+        match random.below(3) {
+            0 if lends_tables => block[holding_start(UNLISTED + 4) + 3] = 1,
+            1 if !grounds.contains(&4) => block[block::KIND] = random.pick(&[-1, 4, i64::MIN, i64::MAX]),
+            _ => block[head] = random.pick(&[1, -1, i64::MIN, i64::MAX]),
+        }
+    }
+
+    fn spoil_choice(&mut self, random: &mut Random, grounds: &[u8]) {
+        let far = random.pick(&[-1, i64::MIN, i64::MAX, 256]);
+        // The other ground is asked of an asset's place, or of the money.
+        let needs_place = grounds.contains(&9) || grounds.contains(&10);
+        let asset = if needs_place { UNLISTED as i64 } else { random.pick(&[UNLISTED as i64, 16, 254, far]) };
+        match &mut self.command {
+            Command::Open { kind, .. } => *kind = random.pick(&[0, 4, far]),
+            Command::Move(wanted) => wanted.asset = asset,
+            Command::Order(wanted) => match random.below(if needs_place { 1 } else { 3 }) {
+                0 => wanted.asset = asset,
+                1 => wanted.date = random.pick(&[DATES as i64, far]),
+                _ => wanted.side = random.pick(&[2, far]),
+            },
+            _ => unreachable!("a call without a choice"),
+        }
+    }
+
+    fn spoil_amount(&mut self, random: &mut Random, grounds: &[u8]) {
+        let bounds = grounds.contains(&9);
+        let limit = grounds.contains(&10);
+        match &mut self.command {
+            Command::Move(wanted) if bounds => wanted.amount = random.pick(&[-MOST_UNITS - 1, i64::MIN]),
+            Command::Move(wanted) => {
+                wanted.amount = random.pick(&[0, MOST_UNITS + 1, -MOST_UNITS - 1, i64::MIN, i64::MAX]);
+            }
+            // A buy leaves bounds by its money, a sell by its quantity; the other one is wrong.
+            Command::Order(wanted) if wanted.side == SELL => {
+                wanted.money = if limit { -1 } else { random.pick(&[-1, MOST_RUBLES + 1, i64::MIN, i64::MAX]) };
+            }
+            Command::Order(wanted) => {
+                wanted.quantity = if limit { 0 } else { random.pick(&[0, -1, MOST_UNITS + 1, i64::MIN, i64::MAX]) };
+            }
+            _ => unreachable!("a call without an amount"),
+        }
+    }
+
+    fn spoil_bounds(&mut self, random: &mut Random) {
+        let block = self.buffers.block_mut(self.account);
+        match self.command {
+            Command::Move(_) => block[holding_start(0)] = 0,
+            Command::Order(Order { side: BUY, date, .. }) => block[block::NETS.start + date as usize] = -MOST_RUBLES,
+            Command::Order(Order { date, .. }) => {
+                block[holding_start(0) + block::OBLIGATIONS.start + date as usize] = MOST_UNITS;
+            }
+            _ if random.percent(50) => {
+                block[block::RUBLES] = MOST_RUBLES;
+                block[block::NETS.start] = 1;
+            }
+            _ => {
+                block[holding_start(0)] = MOST_UNITS;
+                block[holding_start(0) + block::CLAIMS.start] = HELD + 1;
+            }
+        }
+    }
+}
