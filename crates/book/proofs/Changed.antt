@@ -1,4 +1,4 @@
--- Laws of an amount added to one number of a block. Assumes nothing.
+-- Laws of an amount added to one number: of a block, of the book, of any numbers. Assumes nothing.
 use mathlib.Core.Path.{_≡_, refl, sym, ap, _∙_}
 use mathlib.Core.Logic.{_⊎_, _≢_}
 use mathlib.Core.List.{List}

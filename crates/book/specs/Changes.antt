@@ -16,9 +16,9 @@ use Rattle.book.specs.declared.changes.Trade.{Trade}
 unfoldable pub opened : List ℤ → ℤ → List ℤ
 opened block kind = set block 0 kind
 
--- a block with an amount added to its number k
+-- numbers with an amount added to number k
 unfoldable pub added : List ℤ → ℕ → ℤ → List ℤ
-added block k amount = set block k (number block k +ℤ amount)
+added numbers k amount = set numbers k (number numbers k +ℤ amount)
 
 -- what a trade does to the date's ruble net: a buy (side 0) takes the money from it, a sell adds it
 unfoldable pub moneyOf : Trade → ℤ

@@ -6,7 +6,6 @@ use mathlib.Core.List.{List, [], _∷_}
 use Prim.Native.Nat.{ℕ, _+_}
 use lib.Dec.{eqb}
 use lib.IntN.{ℤ, pos, natAbs, _+ℤ_, _-ℤ_, _*ℤ_}
-use lib.ListN.{set}
 use Rattle.whole.specs.Numbers.{minℤ, dividedDown}
 use Rattle.whole.specs.Sums.{Σ<}
 use Rattle.whole.specs.Parts.{number, tabulated}
@@ -14,6 +13,7 @@ use Rattle.rates.specs.Units.{assets, groupCount}
 use Rattle.rates.specs.Lent.{Tables}
 use Rattle.rates.specs.InForce.{inForce}
 use Rattle.book.specs.Block.{accountKind, rubleNumbers, holdingOf}
+use Rattle.book.specs.Changes.{added}
 use Rattle.assets.specs.Asset.{assetOf}
 use Rattle.assets.specs.Part.{partOf}
 use Rattle.assets.specs.declared.parts.Part.{Part}
@@ -74,14 +74,11 @@ unfoldable pub blockFigures : List ℤ → Tables → Figures
 blockFigures block tables = figuresOf (totalsOf (partIn block tables) assets) (tables .groups) (rublesOf block)
 
 -- ---- one more asset, as the loop over the assets adds it
-unfoldable pub addedTo : List ℤ → ℕ → ℤ → List ℤ
-addedTo numbers g x = set numbers g (number numbers g +ℤ x)
-
 unfoldable pub withPart : Totals → Part → Totals
 withPart totals part = record {
   valuation = totals .valuation +ℤ part .worth;
   market = totals .market +ℤ part .market;
   interest = totals .interest +ℤ part .interest;
-  long = addedTo (totals .long) (part .group) (part .long);
-  short = addedTo (totals .short) (part .group) (part .short);
+  long = added (totals .long) (part .group) (part .long);
+  short = added (totals .short) (part .group) (part .short);
 }

@@ -3,9 +3,10 @@ ghost use Prim.Native.Nat.{_<_};
 ghost use Rattle.whole.specs.Bounds.{_upto_};
 ghost use Rattle.rates.specs.Lent.{lent, given};
 ghost use Rattle.rates.specs.Ranges.{TableRanges};
+ghost use Rattle.book.specs.Changes.{added};
 ghost use Rattle.book.specs.Ranges.{BlockRanges};
 ghost use Rattle.assets.specs.Ranges.{PartRanges};
-ghost use Rattle.figures.specs.Limit.{totalsOf, partIn, addedTo, withPart};
+ghost use Rattle.figures.specs.Limit.{totalsOf, partIn, withPart};
 ghost use Rattle.figures.specs.Ranges.{GroupRanges, TotalRanges};
 use assets::Part;
 use book::in_block;
@@ -25,7 +26,7 @@ pub struct Totals {
 // The risks by group with x added to group g's.
 fn added_to(risks: [i64; 9], g: usize, x: i64) -> [i64; 9]
     requires { ⌜ GroupRanges 15 risks × (g < 9) × (x upto 640000000000000) ⌝ }
-    ensures { λ r. ⌜ r ≡ addedTo risks g x ⌝ }
+    ensures { λ r. ⌜ r ≡ added risks g x ⌝ }
 {
     let mut more = risks;
     more[g] = more[g] + x;

@@ -9,8 +9,8 @@ use native.Mathlib.Omega.{arith}
 use native.Mathlib.Numerals.{add-one}
 use lib.Dec.{eqb}
 use lib.IntN.{ℤ, pos, _+ℤ_, +ℤ-idr}
-use lib.ListN.{length, set, length-set}
-use lib.Seq.{set-getD, getD-set-same, getD-set-other, ext-getD}
+use lib.ListN.{length, set}
+use lib.Seq.{set-getD, ext-getD}
 use borrow.Author.Tests.{eqb-true, eqb-false}
 use Rattle.whole.specs.Bounds.{_upto_}
 use Rattle.whole.specs.Parts.{number}
@@ -23,26 +23,20 @@ use Rattle.whole.proofs.Tabulated.{tabulated-length}
 use Rattle.assets.specs.Ranges.{PartRanges}
 use Rattle.assets.specs.declared.parts.Part.{Part}
 use Rattle.assets.proofs.Unheld.{NoPart}
-use Rattle.figures.specs.Limit.{inGroup, byGroup, totalsOf, addedTo, withPart}
+use Rattle.book.specs.Changes.{added}
+use Rattle.book.proofs.Changed.{added-length, number-added, number-beside}
+use Rattle.figures.specs.Limit.{inGroup, byGroup, totalsOf, withPart}
 use Rattle.figures.specs.Ranges.{GroupRanges, TotalRanges}
 use Rattle.figures.specs.declared.sums.Totals.{Totals}
 use Rattle.figures.proofs.Groups.{side-at}
 
--- ---- one number of a list, with x added to number g
-module _ (risks : List ℤ) (g : ℕ) (x : ℤ) where
-  added-length : length (addedTo risks g x) ≡ length risks
-  unfolding addedTo
-  added-length = simp length-set
-
-  added-at : g < length risks → (j : ℕ) → number (addedTo risks g x) j ≡ number risks j +ℤ cond (eqb g j) x (pos 0)
-  unfolding addedTo
-  added-at h j = by (eqb g j) refl
-    where
-      by : (t : Bool) → eqb g j ≡ t → number (set risks g (number risks g +ℤ x)) j ≡ number risks j +ℤ cond t x (pos 0)
-      by true e =
-          let q = eqb-true g j e in
-          ap (number (set risks g (number risks g +ℤ x))) (sym q) ∙ getD-set-same risks g (number risks g +ℤ x) (pos 0) h ∙ ap (λ (i : ℕ). number risks i +ℤ x) q
-      by false e = getD-set-other risks g j (number risks g +ℤ x) (pos 0) (λ q. eqb-false g j e (sym q)) ∙ sym (+ℤ-idr (number risks j))
+-- ---- any number of a list, with x added to number g
+added-at : (risks : List ℤ) (g : ℕ) (x : ℤ) → g < length risks → (j : ℕ) → number (added risks g x) j ≡ number risks j +ℤ cond (eqb g j) x (pos 0)
+added-at risks g x h j = by (eqb g j) refl
+  where
+    by : (t : Bool) → eqb g j ≡ t → number (added risks g x) j ≡ number risks j +ℤ cond t x (pos 0)
+    by true e = subst (λ (i : ℕ). number (added risks g x) i ≡ number risks i +ℤ x) (eqb-true g j e) (number-added risks g x h)
+    by false e = number-beside risks g x j (λ q. eqb-false g j e (sym q)) ∙ sym (+ℤ-idr (number risks j))
 
 -- ---- the sums over n assets and part n are the sums over n + 1 assets
 module _ (parts : ℕ → Part) where
@@ -50,7 +44,7 @@ module _ (parts : ℕ → Part) where
   unfolding byGroup
   by-group-length side n = tabulated-length _ 9
 
-  side-step : (side : Part → ℤ) (n : ℕ) → parts n .group < 9 → addedTo (byGroup side parts n) (parts n .group) (side (parts n)) ≡ byGroup side parts (suc n)
+  side-step : (side : Part → ℤ) (n : ℕ) → parts n .group < 9 → added (byGroup side parts n) (parts n .group) (side (parts n)) ≡ byGroup side parts (suc n)
   unfolding inGroup
   side-step side n h =
       let risks = byGroup side parts n in
@@ -77,14 +71,14 @@ module _ (parts : ℕ → Part) where
   totals-turn n t r p e q = q ∙ ap (λ (w : Totals). withPart w (parts n)) e ∙ totals-step n (p .group-below) ∙ ap (totalsOf parts) (sym (add-one n))
 
 -- ---- bounds
-group-step : (n : ℕ) (risks : List ℤ) (g : ℕ) (x : ℤ) → GroupRanges n risks → n < 16 → g < 9 → x upto 640000000000000 → GroupRanges (suc n) (addedTo risks g x)
+group-step : (n : ℕ) (risks : List ℤ) (g : ℕ) (x : ℤ) → GroupRanges n risks → n < 16 → g < 9 → x upto 640000000000000 → GroupRanges (suc n) (added risks g x)
 group-step n risks g x r l h b = record {
   size = added-length risks g x ∙ r .size;
   each = λ j q. let m = r .size in more j (eqb g j) (r .each j q) (added-at risks g x (omega arith) j);
 }
   where
-    more : (j : ℕ) (t : Bool) → number risks j upto (n * 640000000000000) → number (addedTo risks g x) j ≡ number risks j +ℤ cond t x (pos 0)
-        → number (addedTo risks g x) j upto (suc n * 640000000000000)
+    more : (j : ℕ) (t : Bool) → number risks j upto (n * 640000000000000) → number (added risks g x) j ≡ number risks j +ℤ cond t x (pos 0)
+        → number (added risks g x) j upto (suc n * 640000000000000)
     more j true o e = record { low = omega ints; high = omega ints; fits = omega ints }
     more j false o e = record { low = omega ints; high = omega ints; fits = omega ints }
 
@@ -138,8 +132,8 @@ ranges-wider n m t h l = record {
 }
 
 -- ---- a part of nothing adds nothing
-added-none : (risks : List ℤ) (g : ℕ) {x : ℤ} → x ≡ pos 0 → addedTo risks g x ≡ risks
-unfolding addedTo
+added-none : (risks : List ℤ) (g : ℕ) {x : ℤ} → x ≡ pos 0 → added risks g x ≡ risks
+unfolding added
 added-none risks g e = ap (λ (x : ℤ). set risks g (number risks g +ℤ x)) e ∙ ap (set risks g) (+ℤ-idr (number risks g)) ∙ set-getD risks g (pos 0)
 
 nothing-more : (x : ℤ) {y : ℤ} → y ≡ pos 0 → x +ℤ y ≡ x

@@ -7,7 +7,7 @@ use Rattle.whole.specs.Parts.{number}
 use Rattle.whole.proofs.Expressions.{Expression, var, _⊕_}
 use Rattle.whole.proofs.Machine.{Runs, need!, runs}
 use Rattle.whole.proofs.Bounds.{upto-within}
-use Rattle.figures.specs.Limit.{addedTo}
+use Rattle.book.specs.Changes.{added}
 use Rattle.whole.proofs.InRange.{sum-runs}
 use Rattle.figures.proofs.sums.added_to.Statement.{statement}
 use Rattle.figures.proofs.sums.added_to.Tie as tie
@@ -23,7 +23,7 @@ add-more : tie.Need-add-more
 add-more c = need! (stored (c .before)) (ok (c .before))
 
 returns : tie.Need-returns
-unfolding addedTo
+unfolding added
 returns c =
     let s = c .before in
     ap (set (s .args .risks) (s .args .g)) (runs (stored s) (ok s))

@@ -14,7 +14,8 @@ use Rattle.whole.proofs.Bounds.{upto-within}
 use Rattle.whole.proofs.InRange.{sum-runs}
 use Rattle.assets.specs.Ranges.{PartRanges}
 use Rattle.assets.specs.declared.parts.Part.{Part}
-use Rattle.figures.specs.Limit.{addedTo, withPart}
+use Rattle.book.specs.Changes.{added}
+use Rattle.figures.specs.Limit.{withPart}
 use Rattle.figures.specs.Ranges.{TotalRanges}
 use Rattle.figures.specs.declared.sums.Totals.{Totals}
 use Rattle.figures.proofs.sums.with_part.Statement.{statement}
@@ -54,15 +55,15 @@ third c = second (c .before .before .before .before)
 returns : tie.Need-returns
 unfolding withPart
 returns c =
-    let added = third c in
-    let s = start added in
+    let both = third c in
+    let s = start both in
     let t = s .args .totals in
     let p = s .args .part in
     let valuation = valuation-summed t p (s .pre .0) (s .pre .1) .1 in
     let market = market-summed t p (s .pre .0) (s .pre .1) .1 in
     let interest = interest-summed t p (s .pre .0) (s .pre .1) .1 in
-    let long = added .before .before .added-to .ensures ∙ ap (addedTo (t .long) (p .group)) (toZ-ofZ (s .pre .1 .long-upto .fits)) in
-    let short = added .added-to2 .ensures ∙ ap (addedTo (t .short) (p .group)) (toZ-ofZ (s .pre .1 .short-upto .fits)) in
+    let long = both .before .before .added-to .ensures ∙ ap (added (t .long) (p .group)) (toZ-ofZ (s .pre .1 .long-upto .fits)) in
+    let short = both .added-to2 .ensures ∙ ap (added (t .short) (p .group)) (toZ-ofZ (s .pre .1 .short-upto .fits)) in
     λ i. record { valuation = valuation i; market = market i; interest = interest i; long = long i; short = short i }
 
 pub with-part-spec : {M : Type 1} → statement M
