@@ -47,7 +47,7 @@ isSpecial NotRecorded = false
 isSpecial (Partial share) = false
 isSpecial (Accepted share) = false
 
--- 4.4 to 4.6: what counts beside what covers the account's own sales. `net` is N, from raw collateral; share 0 gives 4.6
+-- 4.4 to 4.6: what covers the account's own sales, and what counts of the rest. `net` is N, from raw collateral; share 0 gives 4.6
 unfoldable pub counted : ℤ → ℤ → ℤ → ℤ
 counted share held net =
     held -ℤ maxℤ (minℤ net held) (pos 0)
