@@ -3,6 +3,7 @@
 //! asks the second program's rules, but for the answers of one long session.
 
 mod calls;
+mod day;
 mod lines;
 mod long;
 mod malformed;
@@ -22,7 +23,7 @@ pub struct Case {
 pub fn sessions() -> Vec<Case> {
     let mut cases = lines::cases();
     cases.extend(sums::cases());
-    cases.extend([sums::session(), malformed::session(), long::session()]);
+    cases.extend([sums::session(), day::session(), malformed::session(), long::session()]);
     cases
 }
 
