@@ -2,7 +2,9 @@
 // begun, and a buffer each way.
 ghost use Prim.Native.Nat.{_≤_};
 ghost use lib.ListN.{length};
-ghost use Rattle.session_lines.specs.Stream.{longestAnswer};
+ghost use mathlib.Core.Path.{_≡_};
+ghost use mathlib.Core.Bool.{false};
+ghost use Rattle.session_lines.specs.Stream.{longestAnswer, WentThrough};
 use book::in_block::BOOK_LENGTH;
 use session_lines::sizes::LONGEST_LINE;
 use session_lines::sizes::PARAMETERS;
@@ -16,7 +18,8 @@ struct Left {
     failed: bool,
 }
 
-// Answers a piece, and writes as often as the buffer is full. A write that fails ends the session: what was written before stays.
+// Answers a piece, every byte of it once and in order, and writes as often as the buffer is full. A write that fails ends the session: what was
+// written before stays.
 fn answer_piece(
     book: &mut [i64; BOOK_LENGTH],
     parameters: &mut [i64; PARAMETERS],
@@ -26,6 +29,7 @@ fn answer_piece(
     out: &mut [u8],
 ) -> Left
     requires { ⌜ longestAnswer ≤ length (now out) ⌝ }
+    ensures { λ r. ⌜ (r .failed ≡ false → WentThrough book parameters line count (r .count) (now (piece .entry))) ⌝ }
 {
     let mut held = count;
     let mut from = 0;

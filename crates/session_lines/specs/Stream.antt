@@ -1,6 +1,7 @@
 -- A session whose input comes in pieces: what memory holds between two bytes of the stream, and what one byte does. Of a line that has begun only the
 -- bytes that a frame can have are kept; of a longer one, that it is too long.
 -- Assumes nothing.
+use mathlib.Core.Path.{_≡_}
 use mathlib.Core.Bool.{Bool, false, cond}
 use mathlib.Core.List.{List, [], _∷_, _++_}
 use Prim.Native.Nat.{ℕ, _+_, _≤_, _<_}
@@ -53,6 +54,18 @@ pub record Stream : Type 0 where
   pub line : Begun
   pub memory : Memory
 
+-- after a byte that ends no line, and after a newline; whatever room there is for answers
+abbrev pub lineGrown : Stream → ℕ → Stream
+lineGrown s b = record { line = grown (s .line) b; memory = s .memory }
+
+abbrev pub lineClosed : Stream → Stream
+lineClosed s = record { line = begun []; memory = answered (s .memory) (frameHeld (s .line)) .memory }
+
+-- after every byte of a piece, once and in order
+unfoldable pub through : Stream → List ℕ → Stream
+through s [] = s
+through s (b ∷ piece) = through (cond (eqb b newline) (lineClosed s) (lineGrown s b)) piece
+
 pub record Fed : Type 0 where
   pub used : ℕ  -- of the piece
   pub stream : Stream
@@ -60,13 +73,13 @@ pub record Fed : Type 0 where
 
 -- a byte that ends no line
 abbrev pub taken : Fed → ℕ → Fed
-taken f b = record { used = f .used + 1; stream = record { line = grown (f .stream .line) b; memory = f .stream .memory }; out = f .out }
+taken f b = record { used = f .used + 1; stream = lineGrown (f .stream) b; out = f .out }
 
 -- a newline, and the line's answer
 abbrev pub closed : Fed → Fed
 closed f =
     let a = answered (f .stream .memory) (frameHeld (f .stream .line)) in
-    record { used = f .used + 1; stream = record { line = begun []; memory = a .memory }; out = written (f .out .bytes) (f .out .at) (a .line) }
+    record { used = f .used + 1; stream = lineClosed (f .stream); out = written (f .out .bytes) (f .out .at) (a .line) }
 
 abbrev pub hasRoom : Written → Bool
 hasRoom out = leb (out .at + longestAnswer) (length (out .bytes))
@@ -87,16 +100,25 @@ LentBytes = Both (RefT (List ℕ)) (RefT (List ℕ))
 abbrev pub empty : Stream → List ℕ → Fed
 empty s out = record { used = 0; stream = s; out = record { bytes = out; at = 0 } }
 
+abbrev pub streamFound : Lent → Lent → LentBytes → ℕ → Stream
+streamFound book parameters line count = record { line = held (now (line .entry)) count; memory = memoryFound book parameters }
+
+abbrev pub streamLeft : Lent → Lent → LentBytes → ℕ → Stream
+streamLeft book parameters line count = record { line = held (now (line .exit)) count; memory = memoryLeft book parameters }
+
 abbrev pub fedFound : Lent → Lent → LentBytes → ℕ → LentBytes → Fed
-fedFound book parameters line count out =
-    empty (record { line = held (now (line .entry)) count; memory = memoryFound book parameters }) (now (out .entry))
+fedFound book parameters line count out = empty (streamFound book parameters line count) (now (out .entry))
 
 abbrev pub fedLeft : Spot → Lent → Lent → LentBytes → LentBytes → Fed
 fedLeft r book parameters line out = record {
   used = r .used;
-  stream = record { line = held (now (line .exit)) (r .count); memory = memoryLeft book parameters };
+  stream = streamLeft book parameters line (r .count);
   out = writtenTo out (r .at);
 }
+
+-- every byte of a piece, from a line of which `count` bytes were held to one of which `after` are
+abbrev pub WentThrough : Lent → Lent → LentBytes → ℕ → ℕ → List ℕ → Type 0
+WentThrough book parameters line count after piece = streamLeft book parameters line after ≡ through (streamFound book parameters line count) piece
 
 -- what follows for a caller: no more than the piece and the buffer; where the buffer has room for an answer, some of a piece that has any byte; and
 -- the count of a line that is too long is the longest line's and one

@@ -3,7 +3,6 @@ use mathlib.Core.Path.{_≡_, refl, sym, ap, _∙_}
 use mathlib.Core.List.{List, []}
 use Prim.Native.Nat.{ℕ, _+_, _-_, _≤_}
 use native.Mathlib.Omega.{arith}
-use lib.IntN.{ℤ}
 use lib.ListN.{length, drop}
 use borrow.Author.Needs.{needs}
 use Rattle.frames.specs.Answer.{Written, written}
@@ -12,11 +11,9 @@ use Rattle.session_lines.specs.Session.{Memory, answered}
 use Rattle.session_lines.specs.Stream.{longestLine, begun, held, frameHeld, Stream, Fed, closed, fed, empty, Took}
 use Rattle.session_lines.proofs.stream.Steps.{byte-taken, line-taken, line-waits, piece-ends, some-used}
 use Rattle.session_lines.proofs.Answers.{written-inside}
+use Rattle.session_lines.proofs.Through.{streamIn}
 use Rattle.session_lines.proofs.stream.feed.Statement.{statement}
 use Rattle.session_lines.proofs.stream.feed.Tie as tie
-
-abbrev streamIn : List ℤ → List ℤ → List ℕ → ℕ → Stream
-streamIn book parameters line count = record { line = held line count; memory = record { state = record { book = book }; parameters = parameters } }
 
 abbrev fedIn : Stream → List ℕ → ℕ → ℕ → Fed
 fedIn s out at i = record { used = i; stream = s; out = record { bytes = out; at = at } }
