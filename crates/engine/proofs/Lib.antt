@@ -2,6 +2,7 @@
 pub mod Allowed
 pub mod Gates
 pub mod Outcomes
+pub mod Grounds
 pub mod Passed
 pub mod Judged
 pub mod Reports

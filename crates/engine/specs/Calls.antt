@@ -12,7 +12,7 @@ use Rattle.book.specs.Roll.{rolled}
 use Rattle.book.specs.declared.changes.Trade.{Trade}
 use Rattle.book.specs.declared.terms.Terms.{Terms}
 use Rattle.engine.specs.State.{State, left, changedAt}
-use Rattle.engine.specs.Refused.{openRefusals, rollRefusals, moveStands, moveJudged, orderStands, orderJudged}
+use Rattle.engine.specs.Refused.{openRefusals, rollRefusals, moveStands, moveJudged, orderStands, orderJudged, notRaised}
 
 -- ---- any call
 pub record Call : Type 0 where
@@ -58,6 +58,10 @@ moving tables i asset amount = moveStands tables i asset amount before judgedMov
 
 unfoldable pub judgedTrade : Tables → ℕ → Trade → Call
 judgedTrade tables i t = orderJudged tables i t before changing i (λ b. traded b t)
+
+-- a trade whose limit with it, `after`, is not enough: the second ground is asked of the state without it
+unfoldable pub raisingTrade : Tables → ℕ → Trade → ℤ → Call
+raisingTrade tables i t after = notRaised tables i after before changing i (λ b. traded b t)
 
 unfoldable pub ordering : Tables → ℕ → Terms → Call
 ordering tables i o = orderStands tables i o before judgedTrade tables i (tradeOf o)

@@ -94,18 +94,26 @@ figuresAt tables i s = blockFigures (blockAt s i) tables
 abbrev pub limitOf : Tables → ℕ → State → ℤ
 limitOf tables i s = figuresAt tables i s .limit
 
--- the limit is enough: zero or more
+-- the first ground: the limit is enough, zero or more; a withdrawal has no other
 unfoldable pub enough : ℤ → Bool
 enough limit = leZ (pos 0) limit
 
--- an order is admitted exactly when the limit with it booked is enough, whatever it was before
+-- the second ground, document 02, #101: the limit is raised, strictly greater than it was before
+unfoldable pub raised : ℤ → ℤ → Bool
+raised before after = ltZ before after
+
+-- an order is admitted exactly when one of the grounds holds of the limits without it and with it booked
 unfoldable pub admitted : ℤ → ℤ → Bool
-admitted before after = enough after
+admitted before after = enough after || raised before after
 
 abbrev pub orderJudged : Tables → ℕ → Trade → State → List Refusal
 orderJudged tables i t s =
     not (admitted (limitOf tables i s) (limitOf tables i (changedAt i (λ b. traded b t) s))) gives negativeLimit
     ∷ []
+
+-- what is left to ask of an order whose limit with it, `after`, is not enough
+abbrev pub notRaised : Tables → ℕ → ℤ → State → List Refusal
+notRaised tables i after s = not (raised (limitOf tables i s) after) gives negativeLimit ∷ []
 
 -- a deposit is never asked for the limit
 abbrev pub moveJudged : Tables → ℕ → ℕ → ℤ → State → List Refusal

@@ -5,7 +5,7 @@ ghost use Rattle.whole.specs.Refusals.{firstCode};
 ghost use Rattle.rates.specs.Lent.{lent, given};
 ghost use Rattle.book.specs.AtAccount.{InBook};
 ghost use Rattle.engine.specs.State.{state, found};
-ghost use Rattle.engine.specs.Refused.{placeOf, bookGate, tableGate, blockRefusals, holdingRefusals, reportRefusals, figuresAt, limitOf, enough};
+ghost use Rattle.engine.specs.Refused.{placeOf, bookGate, tableGate, blockRefusals, holdingRefusals, reportRefusals, figuresAt, limitOf, enough, raised};
 ghost use Rattle.engine.specs.Ranges.{Judgeable};
 use book::in_block;
 use whole::codes;
@@ -134,9 +134,16 @@ pub(crate) fn limit_at<'a>(
     figures.limit
 }
 
-// Whether a limit is enough: zero or more.
+// The first ground: whether a limit is enough, zero or more.
 pub(crate) fn is_enough(limit: i64) -> bool
     ensures { λ r. ⌜ r ≡ enough limit ⌝ }
 {
     0 <= limit
+}
+
+// The second ground: whether a limit is raised, strictly greater than before.
+pub(crate) fn is_raised(before: i64, after: i64) -> bool
+    ensures { λ r. ⌜ r ≡ raised before after ⌝ }
+{
+    before < after
 }

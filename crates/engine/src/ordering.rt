@@ -4,13 +4,13 @@ ghost use Rattle.rates.specs.Lent.{lent, given};
 ghost use Rattle.engine.specs.State.{state, found};
 ghost use Rattle.engine.specs.Refused.{placeOf, orderChecks, orderStands};
 ghost use Rattle.engine.specs.Ranges.{TradeStands};
-ghost use Rattle.engine.specs.Calls.{answer, outcomeOf, judgedTrade, ordering};
+ghost use Rattle.engine.specs.Calls.{answer, outcomeOf, judgedTrade, raisingTrade, ordering};
 use crate::gate;
 use book::Terms;
 use book::Trade;
 use whole::codes;
 
-// The order: booked at once in the account's block, and taken back where the limit with it is negative.
+// The order: booked at once in the account's block, taken back where the limit with it is not enough, and booked again where it raised the limit.
 
 // Codes 7 and 8.
 fn order_checks(clearing: &[i64], o: Terms) -> u8
@@ -60,7 +60,28 @@ pub fn order_stands(
     order_code(book, clearing, own, groups, gate::place(account), o)
 }
 
-// Book a trade that stands, or answer 10.
+// The second ground: book a trade that stands where the limit with it, `after`, is above the limit without it, or answer 10.
+fn book_if_raised<'a>(
+    book: &mut [i64],
+    clearing: &'a [i64],
+    own: &'a [i64],
+    groups: &[i64],
+    i: usize,
+    t: Trade,
+    after: i64,
+) -> u8
+    requires { ⌜ TradeStands (lent clearing own groups) i (state book) t ⌝ }
+    ensures { λ r. ⌜ answer r book ≡ outcomeOf (raisingTrade (given clearing own groups) i t after) (found book) ⌝ }
+{
+    let before = gate::limit_at(&book[..], clearing, own, groups, i);
+    if !gate::is_raised(before, after) {
+        return codes::NEGATIVE_LIMIT;
+    }
+    book::trade_in(book, i, t);
+    codes::DONE
+}
+
+// Book a trade that stands, or answer 10. The limit without it is worked out only where the limit with it is not enough.
 fn judge_order<'a>(
     book: &mut [i64],
     clearing: &'a [i64],
@@ -73,13 +94,13 @@ fn judge_order<'a>(
     ensures { λ r. ⌜ answer r book ≡ outcomeOf (judgedTrade (given clearing own groups) i t) (found book) ⌝ }
 {
     book::trade_in(book, i, t);
-    let limit = gate::limit_at(&book[..], clearing, own, groups, i);
-    if gate::is_enough(limit) {
+    let after = gate::limit_at(&book[..], clearing, own, groups, i);
+    if gate::is_enough(after) {
         return codes::DONE;
     }
     let back = book::reversed(t);
     book::trade_in(book, i, back);
-    codes::NEGATIVE_LIMIT
+    book_if_raised(book, clearing, own, groups, i, t, after)
 }
 
 // An order.

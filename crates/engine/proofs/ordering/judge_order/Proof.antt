@@ -1,22 +1,21 @@
--- `ordering::judge_order` meets its contract: a trade that leaves the limit negative is taken back, which leaves the book as it was. Assumes nothing.
+-- `ordering::judge_order` meets its contract: a trade whose limit is not enough is taken back, which leaves the book as it was found; then the second
+-- ground decides. Assumes nothing.
 use mathlib.Core.Path.{_≡_, sym, ap, ap₂, _∙_, subst}
-use mathlib.Core.Bool.{not}
 use mathlib.Core.List.{List}
-use native.Mathlib.Omega.{arith}
 use lib.IntN.{ℤ}
 use mir.Facts.{toZ-ofZ}
 use borrow.Author.Needs.{needs}
-use Rattle.whole.proofs.Refusals.{none, hit, miss, code}
 use Rattle.rates.specs.Lent.{Tables, lent}
 use Rattle.book.specs.Changes.{traded}
 use Rattle.book.specs.AtAccount.{atAccount}
 use Rattle.book.specs.declared.changes.Trade.{Trade}
 use Rattle.engine.specs.State.{State, state, withBook, changedAt}
-use Rattle.engine.specs.Refused.{limitOf, enough, admitted, orderJudged}
-use Rattle.engine.specs.Ranges.{Judgeable}
-use Rattle.engine.specs.Calls.{changing, judgedTrade}
+use Rattle.engine.specs.Refused.{limitOf, enough, orderJudged}
+use Rattle.engine.specs.Ranges.{Judgeable, TradeStands}
+use Rattle.engine.specs.Calls.{outcomeOf, judgedTrade, raisingTrade}
 use Rattle.engine.proofs.Judged.{judgeable-booked, reversible, booked-back}
-use Rattle.engine.proofs.Outcomes.{turned-away, made}
+use Rattle.engine.proofs.Outcomes.{made}
+use Rattle.engine.proofs.Grounds.{first-ground, second-ground}
 use Rattle.engine.proofs.ordering.judge_order.Statement.{statement}
 use Rattle.engine.proofs.ordering.judge_order.Tie as tie
 
@@ -35,17 +34,19 @@ limit-at-requires c κs = let booked = c .before .before in let s = booked .befo
     subst (λ (b : List ℤ). Judgeable (tables s) (s .args .i) (withBook (state (s .args .book)) b)) (sym (booked .trade-in .ensures)) (judgeable-booked _ _ _ _ (s .pre))
 
 -- the limit that is looked at is that of the state with the trade
+limit-after : (c : tie.After-limit-at) → let s = c .before .before .before .before .before in c .limit-at .result ≡ limitOf (tables s) (s .args .i) (after s)
+limit-after c = let booked = c .before .before .before in let s = booked .before .before in
+    c .limit-at .ensures .0 ∙ ap (λ (b : List ℤ). limitOf (tables s) (s .args .i) (withBook (state (s .args .book)) b)) (booked .trade-in .ensures)
+
 admits : (c : tie.After-is-enough) → let s = c .before .before .before .before .before .before in
     c .is-enough .result ≡ enough (limitOf (tables s) (s .args .i) (after s))
-admits c = let limit = c .before .limit-at .ensures in let booked = c .before .before .before .before in let s = booked .before .before in
-    c .is-enough .ensures
-    ∙ ap enough (toZ-ofZ (limit .1) ∙ limit .0 ∙ ap (λ (b : List ℤ). limitOf (tables s) (s .args .i) (withBook (state (s .args .book)) b)) (booked .trade-in .ensures))
+admits c = c .is-enough .ensures ∙ ap enough (toZ-ofZ (c .before .limit-at .ensures .1) ∙ limit-after (c .before))
 
 returns : tie.Need-returns
-unfolding judgedTrade admitted
+unfolding judgedTrade
 returns c = let booked = c .before .before .before .before .before in let s = booked .before .before in let a = s .args in
     made (orderJudged (tables s) (a .i) (a .t)) (a .i) (λ b. traded b (a .t)) (state (a .book)) tt
-    (sym (code (miss (ap not (sym (admits (c .before)) ∙ c .if1 .taken)) none))) (booked .trade-in .ensures)
+    (first-ground (tables s) (a .i) (a .t) (state (a .book)) (sym (admits (c .before)) ∙ c .if1 .taken)) (booked .trade-in .ensures)
 
 reversed-requires : tie.Need-reversed-requires
 reversed-requires c κs = c .before .before .before .before .before .before .before .pre .tradable .ranges
@@ -54,18 +55,32 @@ trade-in-requires-2 : tie.Need-trade-in-requires-2
 trade-in-requires-2 c κs = let booked = c .before .before .before .before .before .before .before in let s = booked .before .before in
     rw (booked .trade-in .ensures, c .before .reversed .ensures .0) (reversible _ _ _ _ (s .pre))
 
-returns-2 : tie.Need-returns-2
-unfolding judgedTrade admitted
-returns-2 c =
-    let asked = c .before .before .before .before .before in
-    let booked = asked .before .before .before .before in
+-- taken back, it leaves the book as it was found
+returned : (c : tie.After-trade-in2) → let s = c .before .before .before .before .before .before .before .before .before .before in
+    c .trade-in2 .last .0 ≡ s .args .book .now
+returned c =
+    let booked = c .before .before .before .before .before .before .before .before in
     let s = booked .before .before in
+    c .trade-in2 .ensures
+    ∙ ap₂ (λ (b : List ℤ) (t : Trade). atAccount b (s .args .i) (λ b. traded b t)) (booked .trade-in .ensures) (c .before .before .reversed .ensures .0)
+    ∙ booked-back _ _ _ _ (s .pre)
+
+book-if-raised-requires : tie.Need-book-if-raised-requires
+book-if-raised-requires c κs =
+    let there = c .before .before in
+    let s = there .before .before .before .before .before .before .before .before .before .before in
+    subst (λ (b : List ℤ). TradeStands (tables s) (s .args .i) (withBook (state (s .args .book)) b) (s .args .t)) (sym (returned there)) (s .pre)
+
+returns-2 : tie.Need-returns-2
+returns-2 c =
+    let there = c .before .before .before .before in
+    let asked = there .before .before .before .before in
+    let s = asked .before .before .before .before .before .before in
     let a = s .args in
-    turned-away (orderJudged (tables s) (a .i) (a .t)) (changing (a .i) (λ b. traded b (a .t))) (state (a .book))
-    (code (hit (ap not (sym (admits asked) ∙ c .before .before .before .before .if1 .left)))) (λ z. omega arith)
-    (c .before .trade-in2 .ensures
-    ∙ ap₂ (λ (b : List ℤ) (t : Trade). atAccount b (a .i) (λ b. traded b t)) (booked .trade-in .ensures) (c .before .before .before .reversed .ensures .0)
-    ∙ booked-back _ _ _ _ (s .pre))
+    c .before .book-if-raised .ensures
+    ∙ ap₂ (λ (limit : ℤ) (b : List ℤ). outcomeOf (raisingTrade (tables s) (a .i) (a .t) limit) (withBook (state (a .book)) b))
+    (toZ-ofZ (asked .before .limit-at .ensures .1) ∙ limit-after (asked .before)) (returned there)
+    ∙ second-ground (tables s) (a .i) (a .t) (state (a .book)) (sym (admits asked) ∙ there .before .before .before .if1 .left)
 
 pub judge-order-spec : {M : Type 1} → statement M
 judge-order-spec =
@@ -78,5 +93,6 @@ judge-order-spec =
     returns
     reversed-requires
     trade-in-requires-2
+    book-if-raised-requires
     (λ c. search needs)
     returns-2)
