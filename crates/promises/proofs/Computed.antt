@@ -3,7 +3,7 @@ use mathlib.Core.Path.{refl}
 use Rattle.whole.specs.Numbers.{minℤ, maxℤ, absℤ, dividedDown, dividedUp}
 use Rattle.whole.specs.Bounds.{between}
 use Rattle.whole.specs.Sums.{Σ<}
-use Rattle.whole.specs.Parts.{part, tabulated}
+use Rattle.whole.specs.Parts.{part, put, tabulated}
 use Rattle.whole.specs.Marks.{allTrue, allZero, every, pieces}
 use Rattle.whole.specs.Refusals.{firstCode, leaves}
 use Rattle.rates.specs.Row.{highestRate}
@@ -11,13 +11,16 @@ use Rattle.rates.specs.Rules.{termMarks, rateMarks, limitMarks, dateMarks, list
 use Rattle.rates.specs.Tables.{listed, ownKindRight, ownRowMarks, clearingMarks, ownMarks, tableMarks, lengthsRight, soundTables}
 use Rattle.rates.specs.InForce.{inForce, outerWidth, coverTest}
 use Rattle.book.specs.Block.{moveAt}
-use Rattle.book.specs.Changes.{added}
+use Rattle.book.specs.Changes.{added, moneyOf, traded}
+use Rattle.book.specs.AtAccount.{atAccount}
 use Rattle.book.specs.Rules.{headMarks, holdingRight, inBounds, goodBlock, holdsListed}
 use Rattle.assets.specs.Collateral.{poolShareInForce, shareByKind, regimeOf, counted}
 use Rattle.assets.specs.Asset.{net, trades, adjustedCollateral, position, leftOut, valuedCollateral, worthOf, assetUnder}
 use Rattle.assets.specs.Risk.{charge, unitsCharge, marketCharge, sideRisk, positionSum, longSum, shortSum, marketRisk, fallCharge, riseCharge, interestOf, interestRisk}
 use Rattle.assets.specs.Part.{longRisk, shortRisk, groupOf, partOf}
 use Rattle.figures.specs.Limit.{inGroup, byGroup, totalsOf, discountOf, discount, singleLimit, figuresOf, rublesOf, partIn, blockFigures}
+use Rattle.engine.specs.Refused.{enough, raised, admitted}
+use Rattle.engine.specs.Calls.{outcomeOf, ordering, judgedTrade}
 use Rattle.engine.specs.Report.{reportOf}
 use Rattle.promises.specs.Sums.{written, zeros, SumsMet}
 use Rattle.promises.specs.Wrong.{reckoned, same, meets, withSides, unitRisk, exactDiscount, roundedLast, WaysRefused}
@@ -30,12 +33,13 @@ pub record Computed : Type 0 where
   pub facts : Facts
 
 pub computed : Computed
-unfolding written zeros added moveAt minℤ maxℤ absℤ dividedDown dividedUp between Σ< part tabulated allTrue pieces allZero firstCode leaves termMarks
+unfolding written zeros added moveAt minℤ maxℤ absℤ dividedDown dividedUp between Σ< part put tabulated allTrue pieces allZero firstCode leaves termMarks
     rateMarks limitMarks dateMarks listedMarks rowMarks listed ownKindRight ownRowMarks clearingMarks ownMarks tableMarks lengthsRight soundTables
     inForce highestRate outerWidth coverTest headMarks holdingRight every inBounds goodBlock holdsListed poolShareInForce shareByKind regimeOf counted
     net trades adjustedCollateral position leftOut valuedCollateral worthOf assetUnder charge unitsCharge marketCharge sideRisk positionSum longSum
     shortSum marketRisk fallCharge riseCharge interestOf interestRisk longRisk shortRisk groupOf partOf inGroup byGroup totalsOf discountOf discount
-    singleLimit figuresOf rublesOf partIn blockFigures reportOf reckoned same meets withSides unitRisk exactDiscount roundedLast
+    singleLimit figuresOf rublesOf partIn blockFigures moneyOf traded atAccount enough raised admitted judgedTrade ordering outcomeOf reportOf
+    reckoned same meets withSides unitRisk exactDiscount roundedLast
 computed = record {
   sums-met = refl;
   ways-refused = refl;
@@ -49,6 +53,10 @@ computed = record {
     partly-covers = refl;
     covers = refl;
     sales = refl;
+    troubled-long = refl;
+    ten-more-good = refl;
+    bought-back = refl;
+    not-bought-back = refl;
     richer = refl;
   };
 }

@@ -16,6 +16,7 @@ use Rattle.promises.proofs.MoreCollateral.{Richer, richer, limitWith}
 use Rattle.promises.proofs.Calls.{every-call}
 use Rattle.promises.proofs.OrderAfterDeposit.{order-still}
 use Rattle.promises.proofs.PositiveMove.{was-reported, stood, more-left}
+use Rattle.promises.specs.Admission.{ZeroOrMore}
 use Rattle.promises.specs.Deposit.{Covered, AssetDeposit, RubleDeposit, OrderAfterDeposit, PositiveMove}
 
 pub asset-deposit : AssetDeposit reportOf Covered
@@ -36,15 +37,18 @@ ruble-deposit tables i s answers other sum d =
           (rubles-higher (blockAt s i) tables (r .long) sum),
     )
 
-pub order-after-deposit : OrderAfterDeposit
+pub order-after-deposit : OrderAfterDeposit ZeroOrMore
 order-after-deposit tables i s answers asset counts other amount d j o =
     let r = richer tables i s answers asset counts other amount d in
     pick r (eqb j i) refl
   where
-    pick : Richer tables i s other asset amount → (b : Bool) → eqb j i ≡ b → outcomeOf (ordering tables j o) s .code ≡ 0 → outcomeOf (ordering tables j o) other .code ≡ 0
-    pick r true e = subst (λ (k : ℕ). outcomeOf (ordering tables k o) s .code ≡ 0 → outcomeOf (ordering tables k o) other .code ≡ 0) (sym (eqb-true j i e))
-        (order-still tables i s other asset amount r o)
-    pick r false e = λ admits.
+    Kept : ℕ → Type 0
+    Kept k = outcomeOf (ordering tables k o) s .code ≡ 0 → ZeroOrMore (reportOf tables k (outcomeOf (ordering tables k o) s .state) .figures .limit)
+        → outcomeOf (ordering tables k o) other .code ≡ 0
+
+    pick : Richer tables i s other asset amount → (b : Bool) → eqb j i ≡ b → Kept j
+    pick r true e = subst Kept (sym (eqb-true j i e)) (order-still tables i s other asset amount r o)
+    pick r false e = λ admits least.
         every-call .orders tables j o .same-code other s (record { same-length = d .same-length; same-block = r .others j (eqb-false j i e) }) ∙ admits
 
 pub positive-move : PositiveMove

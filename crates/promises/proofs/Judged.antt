@@ -1,4 +1,4 @@
--- After an order that passed, the report of the state left answers 0 with the limit that was judged (specs/EveryCall). Assumes nothing.
+-- After an order or a move that passed, the report of the state left answers 0 with that state's figures (specs/EveryCall). Assumes nothing.
 use mathlib.Core.Path.{_≡_, sym, ap, _∙_, subst}
 use mathlib.Core.Bool.{true, _&&_}
 use mathlib.Core.List.{List, [], _∷_, _++_}
@@ -13,68 +13,31 @@ use Rattle.whole.proofs.Tests.{and-left, and-right, or-cases}
 use Rattle.rates.specs.Tables.{listed}
 use Rattle.whole.proofs.Refusals.{changed, none-holds, first-zero, second-zero}
 use Rattle.book.specs.Rules.{holdsListed}
-use Rattle.book.specs.Choices.{assetRight, isRubles, tradeOf}
-use Rattle.book.specs.Changes.{traded, moved, moveOut}
-use Rattle.book.specs.declared.changes.Trade.{Trade}
+use Rattle.book.specs.Choices.{assetRight, isRubles}
+use Rattle.book.specs.Changes.{moved, moveOut}
 use Rattle.book.proofs.AtAccount.{at-long, at-block}
 use Rattle.book.proofs.Moved.{moved-length, moved-listed, rubles-listed}
-use Rattle.book.proofs.Traded.{traded-length, traded-listed}
-use Rattle.figures.specs.declared.limit.Figures.{Figures}
 use Rattle.rates.specs.Lent.{Tables}
 use Rattle.engine.specs.State.{State, blockAt, changedAt}
-use Rattle.engine.specs.Refused.{moveChecks, moveStands, reportRefusals, orderStands, orderJudged, limitOf, figuresAt, admitted}
-use Rattle.engine.specs.Calls.{outcomeOf, moving, judgedMove, ordering, judgedTrade}
+use Rattle.engine.specs.Refused.{moveChecks, moveStands, reportRefusals, figuresAt}
+use Rattle.engine.specs.Calls.{outcomeOf, moving, judgedMove}
 use Rattle.engine.specs.Report.{reportOf}
-use Rattle.book.specs.declared.terms.Terms.{Terms}
 use Rattle.engine.proofs.Gates.{report-answers}
-use Rattle.engine.proofs.Judged.{judgeable-booked, judgeable-moved}
-use Rattle.engine.proofs.Passed.{OrderStood, order-stood, MoveStood, move-stood}
+use Rattle.engine.proofs.Judged.{judgeable-moved}
+use Rattle.engine.proofs.Passed.{MoveStood, move-stood}
 use Rattle.whole.proofs.Parameters.{index-is}
 use Rattle.engine.proofs.Reports.{answers-0, figures-reported}
-use Rattle.promises.specs.EveryCall.{JudgedLimit, OrderReported, MoveReported}
+use Rattle.promises.specs.EveryCall.{OrderReported, MoveReported}
+use Rattle.promises.proofs.Admission.{order-passed}
 
-module _ (tables : Tables) (i : ℕ) (o : Terms) (s : State) (e : outcomeOf (ordering tables i o) s .code ≡ 0) where
-  abbrev t : Trade
-  t = tradeOf o
-
-  abbrev left : State
-  left = changedAt i (λ b. traded b t) s
-
-  stands-0 : firstCode (orderStands tables i o s) ≡ 0
-  unfolding outcomeOf ordering judgedTrade
-  stands-0 = first-zero (orderStands tables i o s) _ e
-
-  stood : OrderStood tables i o s
-  stood = order-stood tables i o s stands-0
-
-  judged : admitted (limitOf tables i s) (limitOf tables i left) ≡ true
-  unfolding outcomeOf ordering judgedTrade
-  judged = not-false _ (none-holds (orderJudged tables i t s) tt (second-zero (orderStands tables i o s) (orderJudged tables i t s) tt e) 0)
-
-  left-is : outcomeOf (ordering tables i o) s .state ≡ left
-  unfolding outcomeOf ordering judgedTrade
-  left-is = sym (changed _ left s e)
-
-  listed-still : holdsListed (blockAt left i) (tables .clearing) ≡ true
-  listed-still = let r = stood .reported in
-      ap (λ (b : List ℤ). holdsListed b (tables .clearing)) (at-block (s .book) i (r .gate .there) (λ b. traded b t) (traded-length (blockAt s i) t))
-      ∙ traded-listed (blockAt s i) t (stood .stands .tradable .ranges) (tables .clearing) (r .listed) (stood .asset-listed)
-
-  reported : firstCode (reportRefusals tables i left) ≡ 0
-  reported = let q = stood in
-      report-answers tables i s left (q .reported .gate-0)
-      (at-long (s .book) i (q .reported .gate .there) (λ b. traded b t) (traded-length (blockAt s i) t) ∙ sym (q .reported .gate .there .long))
-      (judgeable-booked tables i s t (q .stands)) listed-still
-
-  limit-judged : JudgedLimit tables i s left
-  limit-judged = let z = answers-0 tables i left reported in let f = figures-reported tables i left z in record {
-    answers = z;
-    figures = f;
-    passed = ap (λ (r : Figures). admitted (limitOf tables i s) (r .limit)) f ∙ judged;
-  }
+-- what a report that answers 0 says, of a state and of one that is equal to it
+says : (tables : Tables) (i : ℕ) {left booked : State} → left ≡ booked → reportOf tables i booked .code ≡ 0
+    → (reportOf tables i left .code ≡ 0) × (reportOf tables i left .figures ≡ figuresAt tables i left)
+says tables i same z = subst (λ (q : State). (reportOf tables i q .code ≡ 0) × (reportOf tables i q .figures ≡ figuresAt tables i q)) (sym same)
+    (z, figures-reported tables i _ z)
 
 pub order-reported : OrderReported
-order-reported tables i o s e = subst (JudgedLimit tables i s) (sym (left-is tables i o s e)) (limit-judged tables i o s e)
+order-reported tables i o s e = let a = order-passed tables i o s e in says tables i (a .then-booked e) (a .reported-after)
 
 -- ---- after a move that passed
 module _ (tables : Tables) (i : ℕ) (asset amount : ℤ) (s : State) (e : outcomeOf (moving tables i asset amount) s .code ≡ 0) where
@@ -119,6 +82,4 @@ module _ (tables : Tables) (i : ℕ) (asset amount : ℤ) (s : State) (e : outco
       (ap (λ (b : List ℤ). holdsListed b (tables .clearing)) (at-block (s .book) i there (λ b. moved b (natAbs asset) amount) long) ∙ listed-moved)
 
 pub move-reported : MoveReported
-move-reported tables i asset amount s e =
-    subst (λ (q : State). (reportOf tables i q .code ≡ 0) × (reportOf tables i q .figures ≡ figuresAt tables i q)) (sym (moved-is tables i asset amount s e))
-    (let z = answers-0 tables i _ (move-reports tables i asset amount s e) in (z, figures-reported tables i _ z))
+move-reported tables i asset amount s e = says tables i (moved-is tables i asset amount s e) (answers-0 tables i _ (move-reports tables i asset amount s e))

@@ -3,6 +3,7 @@ pub mod Computed
 pub mod Calls
 pub mod Unchanged
 pub mod Kept
+pub mod Admission
 pub mod Judged
 pub mod MoreCollateral
 pub mod OrderAfterDeposit

@@ -16,9 +16,10 @@ use Rattle.book.specs.Rules.{goodBlock}
 use Rattle.book.proofs.Changed.{added-length, number-added, number-beside}
 use Rattle.book.proofs.Moves.{move-inside}
 use Rattle.engine.specs.State.{State, blockAt}
-use Rattle.promises.specs.Sums.{stateIn, S1, S2}
-use Rattle.promises.specs.Deposit.{collateralIn, MoreCollateral}
-use Rattle.promises.specs.Needed.{Exhibit, deposited, lostWhole, partly, NotPartial, CoverNeeded, NotPartialNeeded, oneFigure, OneFigureRefused}
+use Rattle.promises.specs.Sums.{stateIn, tablesIn, S1, S2, S4}
+use Rattle.promises.specs.Deposit.{collateralIn, Covered, MoreCollateral}
+use Rattle.promises.specs.Needed.{Exhibit, deposited, lostWhole, partly, buyBack, tenMore, NotPartial, CoverNeeded, NotPartialNeeded, ZeroOrMoreNeeded}
+use Rattle.promises.specs.Needed.{oneFigure, OneFigureRefused}
 use Rattle.promises.proofs.Computed.{computed}
 
 -- of answer k of a list: the code and the limit
@@ -28,35 +29,40 @@ codeAt k found = natAbs (number (getD found k []) 0)
 abbrev limitAt : ℕ → List (List ℤ) → ℤ
 limitAt k found = number (getD found k []) 5
 
--- S1's book with an amount added to the collateral of asset 0
+-- a book with an amount added to the collateral of account 0 in asset 0
 abbrev place : ℕ
 place = collateralIn 0 0
 
-inside : place < length (stateIn S1 .book)
-inside = let small = move-inside 0 (inl (omega arith)) in omega (arith, computed .facts .long)
-
-more-added : (other : State) (amount : ℤ) → pos 0 <ℤ amount → other .book ≡ added (stateIn S1 .book) place amount → goodBlock (blockAt other 0) ≡ true
-    → MoreCollateral (stateIn S1) other 0 0 amount
-more-added other amount positive book-is good = record {
-  more = positive;
-  there = ap (λ (b : List ℤ). number b place) book-is ∙ number-added (stateIn S1 .book) place amount inside;
-  elsewhere = λ k apart. ap (λ (b : List ℤ). number b k) book-is ∙ number-beside (stateIn S1 .book) place amount k apart;
-  same-length = ap length book-is ∙ added-length (stateIn S1 .book) place amount;
-  in-rules = good;
-}
+more-added : (s other : State) (amount : ℤ) → length (s .book) ≡ 4608 → pos 0 <ℤ amount → other .book ≡ added (s .book) place amount
+    → goodBlock (blockAt other 0) ≡ true → MoreCollateral s other 0 0 amount
+more-added s other amount long positive book-is good =
+    let small = move-inside 0 (inl (omega arith)) in
+    let inside : place < length (s .book) = omega (arith, long) in record {
+      more = positive;
+      there = ap (λ (b : List ℤ). number b place) book-is ∙ number-added (s .book) place amount inside;
+      elsewhere = λ k apart. ap (λ (b : List ℤ). number b k) book-is ∙ number-beside (s .book) place amount k apart;
+      same-length = ap length book-is ∙ added-length (s .book) place amount;
+      in-rules = good;
+    }
 
 more-deposited : MoreCollateral (stateIn S1) deposited 0 0 (pos 2)
-more-deposited = more-added deposited (pos 2) (omega ints) refl (computed .facts .still-good)
+more-deposited = more-added (stateIn S1) deposited (pos 2) (computed .facts .long) (omega ints) refl (computed .facts .still-good)
+
+more-troubled : MoreCollateral (stateIn S4) tenMore 0 0 (pos 10)
+more-troubled = more-added (stateIn S4) tenMore (pos 10) (computed .facts .troubled-long) (omega ints) refl (computed .facts .ten-more-good)
 
 -- a row that is marked 0 is not marked 2
 not-two : {x : ℤ} → x ≡ pos 0 → x ≢ pos 2
 not-two e f = let two : _≡_ {A = ℕ} 0 2 = ap natAbs (sym e ∙ f) in omega arith
 
+row-a-covered : Covered (tablesIn S1) 0
+row-a-covered = record { an-asset = omega arith; passes = computed .facts .covers; not-partial = not-two (computed .facts .sales) }
+
 pub exhibit : Exhibit
 exhibit = let f = computed .facts in record {
   answers = ap (codeAt 1) (computed .sums-met);
-  covered = record { an-asset = omega arith; passes = f .covers; not-partial = not-two (f .sales) };
-  more = more-added (stateIn S2) (pos 40) (omega ints) (f .richer) (f .richer-good);
+  covered = row-a-covered;
+  more = more-added (stateIn S1) (stateIn S2) (pos 40) (f .long) (omega ints) (f .richer) (f .richer-good);
 }
 
 pub cover-needed : CoverNeeded
@@ -71,6 +77,14 @@ not-partial-needed claim =
     let found = computed .cases-answered in
     let h = claim partly 0 (stateIn S1) (ap (codeAt 2) found) 0 (omega arith, computed .facts .partly-covers) deposited (pos 2) more-deposited .1 in
     omega (ints, ap (limitAt 2) found, ap (limitAt 3) found)
+
+-- S4's tables are S1's: row A for asset 0 and no own row
+pub zero-or-more-needed : ZeroOrMoreNeeded
+zero-or-more-needed claim =
+    let f = computed .facts in
+    let answers = ap (codeAt 4) (computed .sums-met) in
+    let h = claim (tablesIn S4) 0 (stateIn S4) answers 0 (inl row-a-covered) tenMore (pos 10) more-troubled 0 buyBack (f .bought-back) tt in
+    let ten = sym (f .not-bought-back) ∙ h in omega arith
 
 pub one-figure-refused : OneFigureRefused
 unfolding oneFigure leaves

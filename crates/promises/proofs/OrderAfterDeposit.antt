@@ -1,19 +1,17 @@
 -- An order on a state and on one with more collateral (specs/Deposit, OrderAfterDeposit). A report's codes are what they were; 7 and 8 look at no block; 9
--- asks bounds, and a trade changes no collateral; 10 asks the limit of the block with the order booked, which is not lower.
+-- asks bounds, and a trade changes no collateral; 10 is not given where the limit of the block with the order booked is zero or more, and it is not lower.
 -- Assumes nothing.
-use mathlib.Core.Path.{_≡_, sym, ap, _∙_}
+use mathlib.Core.Path.{_≡_, sym, ap, _∙_, subst}
 use mathlib.Core.Bool.{true}
+use mathlib.Core.Logic.{inl}
 use mathlib.Core.List.{List, [], _∷_, _++_}
 use Prim.Native.Nat.{ℕ}
-use borrow.Author.Tests.{not-false}
 use lib.IntN.{ℤ, pos}
 use lib.ListN.{length}
-use lib.Signed.{_≤ℤ_, leZ}
+use lib.Signed.{_≤ℤ_}
 use Rattle.whole.specs.Refusals.{Refusal, _gives_, firstCode, outOfBounds}
-use Rattle.whole.proofs.Bounds.{le-yes}
 use Rattle.whole.proofs.Numbers.{≤ℤ-trans}
-use Rattle.whole.proofs.Refusals.{none, miss, code, none-holds, first-zero, second-zero, goes-on}
-use Rattle.whole.proofs.Rules.{ints}
+use Rattle.whole.proofs.Refusals.{none, miss, code, first-zero, second-zero, goes-on}
 use Rattle.whole.proofs.Tests.{denied}
 use Rattle.book.specs.Rules.{inBounds}
 use Rattle.book.specs.Choices.{tradeOf}
@@ -25,12 +23,16 @@ use Rattle.book.proofs.MoveAndTrade.{traded-collateral, traded-moved, moved-bou
 use Rattle.book.proofs.Traded.{traded-length}
 use Rattle.book.proofs.AtAccount.{at-block}
 use Rattle.rates.specs.Lent.{Tables}
-use Rattle.engine.specs.State.{State, blockAt, changedAt}
-use Rattle.engine.specs.Refused.{reportRefusals, orderChecks, orderStands, orderJudged, limitOf, enough, admitted}
-use Rattle.engine.specs.Calls.{outcomeOf, ordering, judgedTrade}
+use Rattle.engine.specs.State.{State, blockAt}
+use Rattle.engine.specs.Refused.{reportRefusals, orderChecks, orderStands}
+use Rattle.engine.specs.Calls.{outcomeOf, ordering}
+use Rattle.engine.specs.Report.{reportOf}
 use Rattle.book.specs.declared.terms.Terms.{Terms}
 use Rattle.engine.proofs.Gates.{ReportPassed, report-passed}
 use Rattle.engine.proofs.Passed.{OrderStood, order-stood}
+use Rattle.engine.proofs.Reports.{limit-reported}
+use Rattle.promises.specs.Admission.{ZeroOrMore, withOrder}
+use Rattle.promises.proofs.Admission.{booked-reports, admission, stands-0, order-passed}
 use Rattle.promises.proofs.MoreCollateral.{Richer, limitWith}
 
 module _ (tables : Tables) (i : ℕ) (s other : State) (asset : ℕ) (amount : ℤ) (r : Richer tables i s other asset amount) (o : Terms) where
@@ -49,11 +51,14 @@ module _ (tables : Tables) (i : ℕ) (s other : State) (asset : ℕ) (amount : �
   abbrev nine : List ℤ → List Refusal
   nine block = tradeOut block t gives outOfBounds ∷ []
 
-  -- the limit that is judged is that of the block with the trade
-  limit-booked : (q : State) → ReportPassed tables i q → limitOf tables i (changedAt i (λ b. traded b t) q) ≡ limitWith tables (traded (blockAt q i) t)
-  limit-booked q p = ap (limitWith tables) (at-block (q .book) i (p .gate .there) (λ b. traded b t) (traded-length (blockAt q i) t))
+  -- the limit that is reported with the order is that of the block with the trade
+  limit-with : (q : State) (stands : firstCode (orderStands tables i o q) ≡ 0)
+      → reportOf tables i (withOrder i o q) .figures .limit ≡ limitWith tables (traded (blockAt q i) t)
+  limit-with q stands =
+      limit-reported tables i (withOrder i o q) (booked-reports tables i o q stands)
+      ∙ ap (limitWith tables) (at-block (q .book) i (order-stood tables i o q stands .reported .gate .there) (λ b. traded b t) (traded-length (blockAt q i) t))
 
-  module _ (stands : firstCode (orderStands tables i o s) ≡ 0) (judged : firstCode (orderJudged tables i t s) ≡ 0) where
+  module _ (stands : firstCode (orderStands tables i o s) ≡ 0) where
     stood : OrderStood tables i o s
     stood = order-stood tables i o s stands
 
@@ -74,22 +79,21 @@ module _ (tables : Tables) (i : ℕ) (s other : State) (asset : ℕ) (amount : �
         ∙ ap inBounds (sym (r .block-is))
         ∙ good-in-bounds after (ap length (r .block-is) ∙ moved-length before asset amount ∙ r .long) (now-passed .judgeable .good)
 
-    admitted-after : admitted (limitOf tables i other) (limitOf tables i (changedAt i (λ b. traded b t) other)) ≡ true
-    unfolding admitted enough
-    admitted-after =
-        let test : leZ (pos 0) (limitWith tables (traded before t)) ≡ true =
-        ap (leZ (pos 0)) (sym (limit-booked s (r .passed))) ∙ not-false _ (none-holds (orderJudged tables i t s) tt judged 0) in
-        let least : pos 0 ≤ℤ limitWith tables (traded before t) = omega ints in
-        rw (limit-booked other now-passed, trade-is) (le-yes (≤ℤ-trans least (r .not-lower (traded before t) booked-long)))
+    stands-still : firstCode (orderStands tables i o other) ≡ 0
+    stands-still =
+        let right = first-zero checks (nine before) (second-zero (reportRefusals tables i s) (checks ++ nine before) tt stands) in
+        goes-on (reportRefusals tables i other) (checks ++ nine after) tt (r .still)
+        ∙ goes-on checks (nine after) tt right
+        ∙ sym (code (miss (denied bounds-after) none))
 
-  pub order-still : outcomeOf (ordering tables i o) s .code ≡ 0 → outcomeOf (ordering tables i o) other .code ≡ 0
-  unfolding outcomeOf ordering judgedTrade
-  order-still e =
-      let stands = first-zero (orderStands tables i o s) (orderJudged tables i t s) e in
-      let judged = second-zero (orderStands tables i o s) (orderJudged tables i t s) tt e in
-      let right = first-zero checks (nine before) (second-zero (reportRefusals tables i s) (checks ++ nine before) tt stands) in
-      goes-on (orderStands tables i o other) (orderJudged tables i t other) tt
-      (goes-on (reportRefusals tables i other) (checks ++ nine after) tt (r .still)
-      ∙ goes-on checks (nine after) tt right
-      ∙ sym (code (miss (denied (bounds-after stands judged)) none)))
-      ∙ sym (code (miss (denied (admitted-after stands judged)) none))
+    still-enough : pos 0 ≤ℤ reportOf tables i (withOrder i o s) .figures .limit → pos 0 ≤ℤ reportOf tables i (withOrder i o other) .figures .limit
+    still-enough least =
+        rw (limit-with other stands-still, trade-is) (≤ℤ-trans (rw (limit-with s stands) at least) (r .not-lower (traded before t) booked-long))
+
+  pub order-still : (e : outcomeOf (ordering tables i o) s .code ≡ 0) → ZeroOrMore (reportOf tables i (outcomeOf (ordering tables i o) s .state) .figures .limit)
+      → outcomeOf (ordering tables i o) other .code ≡ 0
+  order-still e least =
+      let stands = stands-0 tables i o s e in
+      let booked = order-passed tables i o s e .then-booked e in
+      admission tables i o other (stands-still stands) .zero-where
+      (inl (still-enough stands (subst (λ (q : State). ZeroOrMore (reportOf tables i q .figures .limit)) booked least)))

@@ -3,9 +3,11 @@
 --                      more collateral of that asset in that account's block, still inside the block rules: the report answers 0 and its Single Limit
 --                      is not lower;
 --   RubleDeposit       the same for rubles, where the limit is higher by exactly the added sum;
---   OrderAfterDeposit  every order of any account that answers 0 on the first book answers 0 on the second;
+--   OrderAfterDeposit  every order of any account that answers 0 on the first book, with a limit after it of zero or more (document 02, #101), answers 0
+--                      on the second;
 --   PositiveMove       about the call itself: a move with a positive amount that answers 0 leads from such a book to such another.
--- Each is a type, and proofs/Deposit proves it. specs/Needed shows that without the cover test, or for a partial row, the first is false.
+-- Each is a type, and proofs/Deposit proves it. specs/Needed shows that without the cover test, or for a partial row, the first is false, and
+-- the third for every limit after the order.
 -- Assumes nothing.
 use mathlib.Core.Path.{_≡_}
 use mathlib.Core.Bool.{true}
@@ -51,7 +53,8 @@ pub record MoreCollateral (s other : State) (i : ℕ) (asset : ℕ) (amount : �
 abbrev pub Report : Type 0
 Report = Tables → ℕ → State → Reported
 
--- ---- the statements; the first two of any report, the first also with another condition on the asset than demand 3's, which is `Covered`
+-- ---- the statements; the first two of any report. The first takes its condition on the asset, demand 3's is `Covered`, and the third its condition on
+-- the limit after the order, demand 3's is specs/Admission's `ZeroOrMore`, so that specs/Needed can try others
 module _ (report : Report) where
   abbrev pub AssetDeposit : (Tables → ℕ → Type 0) → Type 0
   AssetDeposit condition =
@@ -68,13 +71,14 @@ module _ (report : Report) where
       → (report tables i other .code ≡ 0)
       × (report tables i other .figures .limit ≡ report tables i s .figures .limit +ℤ sum)
 
-abbrev pub OrderAfterDeposit : Type 0
-OrderAfterDeposit =
+abbrev pub OrderAfterDeposit : (ℤ → Type 0) → Type 0
+OrderAfterDeposit condition =
     (tables : Tables) (i : ℕ) (s : State) → reportOf tables i s .code ≡ 0
     → (asset : ℕ) → Covered tables asset ⊎ (asset ≡ rubles)
     → (other : State) (amount : ℤ) → MoreCollateral s other i asset amount
     → (j : ℕ) (o : Terms)
     → outcomeOf (ordering tables j o) s .code ≡ 0
+    → condition (reportOf tables j (outcomeOf (ordering tables j o) s .state) .figures .limit)
     → outcomeOf (ordering tables j o) other .code ≡ 0
 
 abbrev pub PositiveMove : Type 0

@@ -5,8 +5,8 @@
 --   Unchanged       what a call leaves as it was in its own account's block;
 --   GoodAfter       after a call that passed, the account's block keeps the block rules and is open;
 --   HeadUnread      the figures read no number 10 to 15 of a block;
---   OrderReported   after an order that passed, the report of the state left answers 0 with the limit that was judged;
---   MoveReported    after a move that passed, it answers 0 with the figures of the state left.
+--   OrderReported   after an order that passed, the report of the state left answers 0 with that state's figures;
+--   MoveReported    after a move that passed, it does too.
 -- Assumes nothing.
 use mathlib.Core.Path.{_≡_}
 use mathlib.Core.Bool.{true, false}
@@ -21,7 +21,7 @@ use Rattle.book.specs.Block.{accounts, accountKind, InHead}
 use Rattle.book.specs.Rules.{goodBlock}
 use Rattle.rates.specs.Lent.{Tables}
 use Rattle.engine.specs.State.{State, blockAt}
-use Rattle.engine.specs.Refused.{limitOf, figuresAt, admitted}
+use Rattle.engine.specs.Refused.{figuresAt}
 use Rattle.engine.specs.Calls.{Call, Outcome, outcomeOf, opening, rolling, moving, ordering}
 use Rattle.figures.specs.Limit.{blockFigures}
 use Rattle.engine.specs.Report.{reportOf}
@@ -74,18 +74,13 @@ HeadUnread = (block : List ℤ) (tables : Tables) (k : ℕ) (x : ℤ) → 10 ≤
 abbrev pub SameReport : Type 0
 SameReport = (tables : Tables) (i : ℕ) (s other : State) → Alike i s other → reportOf tables i s ≡ reportOf tables i other
 
--- after an order that passed
-pub record JudgedLimit (tables : Tables) (i : ℕ) (before left : State) : Type 0 where
-  pub answers : reportOf tables i left .code ≡ 0
-  pub figures : reportOf tables i left .figures ≡ figuresAt tables i left
-  pub passed : admitted (limitOf tables i before) (reportOf tables i left .figures .limit) ≡ true
+-- where the call passed, the report of the state left answers 0 with that state's figures
+abbrev pub Reports : Tables → ℕ → Call → State → Type 0
+Reports tables i call s = outcomeOf call s .code ≡ 0
+    → let left = outcomeOf call s .state in (reportOf tables i left .code ≡ 0) × (reportOf tables i left .figures ≡ figuresAt tables i left)
 
 abbrev pub OrderReported : Type 0
-OrderReported = (tables : Tables) (i : ℕ) (o : Terms) (s : State) → outcomeOf (ordering tables i o) s .code ≡ 0
-    → JudgedLimit tables i s (outcomeOf (ordering tables i o) s .state)
+OrderReported = (tables : Tables) (i : ℕ) (o : Terms) (s : State) → Reports tables i (ordering tables i o) s
 
--- after a move that passed, the report of the state left answers 0, of that state
 abbrev pub MoveReported : Type 0
-MoveReported = (tables : Tables) (i : ℕ) (asset amount : ℤ) (s : State) → outcomeOf (moving tables i asset amount) s .code ≡ 0
-    → let left = outcomeOf (moving tables i asset amount) s .state in
-    (reportOf tables i left .code ≡ 0) × (reportOf tables i left .figures ≡ figuresAt tables i left)
+MoveReported = (tables : Tables) (i : ℕ) (asset amount : ℤ) (s : State) → Reports tables i (moving tables i asset amount) s
