@@ -29,7 +29,7 @@ pub const CLAIMS: Range<usize> = 1..1 + DATES;
 pub const OBLIGATIONS: Range<usize> = 1 + DATES..HOLDING;
 
 /// Where an asset's holding starts in the block: 16 + 17a.
-pub fn holding_start(asset: usize) -> usize {
+pub const fn holding_start(asset: usize) -> usize {
     FIRST_HOLDING + HOLDING * asset
 }
 

@@ -1,7 +1,8 @@
-//! The rules of document 01 in plain Rust, in the document's order: the second program that the engine is compared
-//! with, written from the document and the readings of it in docs/DECISIONS.md. Numbers are i64 as the document has them. Of a sound block under sound tables
-//! nothing on the way reaches 10^18, and every build stops at a sum or product that would wrap. Sums of unchecked
-//! numbers saturate, which leaves them past every bound, or are taken in 128 bits.
+//! The rules of document 01 in plain Rust, in the document's order, with request #101 of document 02: the second program
+//! that the engine is compared with, written from the documents and the readings of them in docs/DECISIONS.md. Numbers
+//! are i64 as the document has them. Of a sound block under sound tables nothing on the way reaches 10^18, and every
+//! build stops at a sum or product that would wrap. Sums of unchecked numbers saturate, which leaves them past every
+//! bound, or are taken in 128 bits.
 
 #[macro_use]
 mod mutant;

@@ -1,4 +1,5 @@
-//! Document 01, "Calls and turning away": the codes, and the looks every call takes first, in the table's order.
+//! Document 01, "Calls and turning away": the codes, and the looks every call takes first, in the table's order; with
+//! request #101 of document 02.
 
 mod moving;
 mod open;
@@ -8,8 +9,8 @@ mod roll;
 
 pub use moving::{Move, RUBLES, move_collateral};
 pub use open::open;
-pub(crate) use order::leave_in_bounds;
 pub use order::{BUY, Order, SELL, order};
+pub(crate) use order::{admit, leave_in_bounds};
 pub use report::report;
 pub use roll::roll;
 
@@ -114,19 +115,37 @@ pub fn make<const COUNT: usize>(block: &mut Block, changes: [Change; COUNT]) -> 
     changes.map(|Change { place, after }| Change { place, after: mem::replace(&mut block[place], after) })
 }
 
-/// Code 10: makes the changes, and takes them back where the limit after them is negative.
+/// A negative limit that a call would leave.
+struct BelowZero {
+    limit: i64,
+}
+
+/// Where a call has no other ground to pass.
+impl From<BelowZero> for Refusal {
+    fn from(_: BelowZero) -> Refusal {
+        Refusal::LimitBelowZero
+    }
+}
+
+/// Makes the changes where the limit after them is zero or more, else takes them back. The one ground on which a
+/// withdrawal passes, and an order's first.
 fn make_within_limit<const COUNT: usize>(
     block: &mut Block,
     changes: [Change; COUNT],
     tables: &Tables,
-) -> Result<(), Refusal> {
+) -> Result<(), BelowZero> {
     let before = make(block, changes);
     let limit = figures(block, tables).limit();
-    if rule!(limit < 0; LimitOfZeroRefused => limit <= 0, LimitBelowByOneAdmitted => limit < -1) {
-        make(block, before);
-        return Err(Refusal::LimitBelowZero);
+    if is_zero_or_more(limit) {
+        return Ok(());
     }
-    Ok(())
+    make(block, before);
+    Err(BelowZero { limit })
+}
+
+/// The first ground: the limit after the call is zero or more.
+fn is_zero_or_more(after: i64) -> bool {
+    rule!(after >= 0; LimitOfZeroRefused => after > 0, LimitBelowByOneAdmitted => after >= -1)
 }
 
 fn refuse_unless(good: bool, refusal: Refusal) -> Result<(), Refusal> {

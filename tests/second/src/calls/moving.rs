@@ -24,9 +24,10 @@ pub fn move_collateral(book: &mut [i64], lent: &Lent, wanted: &Move) -> Result<(
     wanted.amount_within(most)?;
     let change = Change { place, after: block[place] + wanted.amount };
     wanted.leaves_in_bounds(change.after, most)?;
-    // A deposit skips code 10.
+    // A deposit skips code 10. A withdrawal keeps document 01's rule: #101 is of orders alone.
     if rule!(wanted.amount < 0; DepositAskedForLimit => true) {
-        return make_within_limit(block, [change], &tables);
+        rule!((); SecondGroundForWithdrawals => return super::admit(block, [change], &tables));
+        return Ok(make_within_limit(block, [change], &tables)?);
     }
     make(block, [change]);
     Ok(())

@@ -1,7 +1,9 @@
-//! Document 01, the call "order": booked as a trade at once (house).
+//! Document 01, the call "order": booked as a trade at once (house). Document 02, #101: the two grounds on which it is
+//! admitted.
 
-use super::{Change, Refusal, first_look, index, make_within_limit, open_block, refuse_unless};
+use super::{BelowZero, Change, Refusal, first_look, index, make, make_within_limit, open_block, refuse_unless};
 use crate::block::{self, Block, CLAIMS, NETS, OBLIGATIONS, holding_start};
+use crate::limit::figures;
 use crate::tables::{Lent, Tables};
 use crate::units::*;
 
@@ -26,9 +28,12 @@ pub fn order(book: &mut [i64], lent: &Lent, wanted: &Order) -> Result<(), Refusa
     let changes = wanted.changes(block, asset, date);
     rule!((); BoundsBeforeAmount => leave_in_bounds(changes)?);
     wanted.amounts()?;
-    rule!((); LimitBeforeBounds => make_within_limit(&mut block.clone(), changes, &tables)?);
+    rule!((); LimitBeforeBounds => admit(&mut block.clone(), changes, &tables)?);
     leave_in_bounds(changes)?;
-    make_within_limit(block, changes, &tables)
+    rule!(();
+        SecondGroundOfBuysAlone => if wanted.side == SELL { make_within_limit(&mut block.clone(), changes, &tables)? },
+        SecondGroundOfSellsAlone => if wanted.side == BUY { make_within_limit(&mut block.clone(), changes, &tables)? });
+    admit(block, changes, &tables)
 }
 
 impl Order {
@@ -69,4 +74,24 @@ impl Order {
 pub(crate) fn leave_in_bounds([units, net]: [Change; 2]) -> Result<(), Refusal> {
     let good = block::trades_in_bounds(&units.after) && block::rubles_in_bounds(&net.after);
     refuse_unless(good, Refusal::OutOfBounds)
+}
+
+/// Code 10, given when neither ground holds. The limit before is of the same block under the same tables, and is worked
+/// out only where the limit after is negative.
+pub(crate) fn admit<const COUNT: usize>(
+    block: &mut Block,
+    changes: [Change; COUNT],
+    tables: &Tables,
+) -> Result<(), Refusal> {
+    let Err(BelowZero { limit: after }) = make_within_limit(block, changes, tables) else { return Ok(()) };
+    let before = rule!(figures(block, tables).limit(); LimitBeforeOfBookedBlock => after);
+    refuse_unless(is_strictly_greater(after, before), Refusal::LimitBelowZero)?;
+    rule!((); SecondGroundBooksNothing => return Ok(()));
+    make(block, changes);
+    Ok(())
+}
+
+/// The second ground: the limit after the order is strictly greater than the limit before it.
+fn is_strictly_greater(after: i64, before: i64) -> bool {
+    rule!(after > before; SecondGroundForgotten => false, EqualLimitAdmitted => after >= before)
 }

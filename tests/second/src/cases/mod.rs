@@ -1,6 +1,6 @@
 //! The stored cases: session inputs and call scripts with their answers. Figures of S1 to S12, the two orders, the
-//! session and the cover test are document 01's own; the other answers are worked out by hand from its rules. Nothing here
-//! asks the second program's rules, but for the answers of one long session.
+//! session and the cover test are document 01's own; the other answers are worked out by hand from its rules and from
+//! #101. Nothing here asks the second program's rules, but for the answers of one long session.
 
 mod calls;
 mod day;
@@ -8,6 +8,7 @@ mod lines;
 mod long;
 mod malformed;
 mod sums;
+mod trouble;
 
 pub use sums::{GROUP_ONE, Held, SUMS, Sum, row_a};
 
@@ -23,13 +24,15 @@ pub struct Case {
 pub fn sessions() -> Vec<Case> {
     let mut cases = lines::cases();
     cases.extend(sums::cases());
-    cases.extend([sums::session(), day::session(), malformed::session(), long::session()]);
+    cases.extend([sums::session(), day::session(), trouble::session(), malformed::session(), long::session()]);
     cases
 }
 
 /// The call scripts of tests/cases: NAME.calls and NAME.answers.
 pub fn scripts() -> Vec<Case> {
-    calls::cases()
+    let mut cases = calls::cases();
+    cases.push(trouble::script());
+    cases
 }
 
 /// What the engine's session program is run on where it is proved, standard input and output of its crate: document 01's

@@ -101,25 +101,31 @@ impl Sum {
 
     fn case(&self) -> Case {
         let mut script = Script::new(self.name);
-        self.play(&mut script, 0, &mut Rows::new());
+        self.play(&mut script, &[0], &mut Rows::new());
         script.0
     }
 
     /// Holdings come in under rows that give every trade the value 0, so that no limit stops them; then the sum's own
     /// rows take their place.
-    fn play(&self, script: &mut Script, account: i64, rows: &mut Rows) {
-        script.say(Frame::Open { account, kind: self.account_kind }, 0);
+    pub(super) fn play(&self, script: &mut Script, accounts: &[i64], rows: &mut Rows) {
+        for &account in accounts {
+            script.say(Frame::Open { account, kind: self.account_kind }, 0);
+        }
         for asset in 0..self.assets {
             rows.lend(script, asset, &worthless(self.row()[KIND]));
         }
-        for held in self.holding {
-            script.say(held.frame(account), 0);
+        for &account in accounts {
+            for held in self.holding {
+                script.say(held.frame(account), 0);
+            }
         }
         script.set(group_place(0), GROUP_ONE);
         for asset in 0..self.assets {
             rows.lend(script, asset, &self.row());
         }
-        script.report(account, self.figures);
+        for &account in accounts {
+            script.report(account, self.figures);
+        }
     }
 
     fn has_row_a(&self) -> bool {
@@ -141,15 +147,15 @@ impl Held {
 }
 
 /// The clearing rows as a script has lent them so far.
-struct Rows([Row; ASSETS]);
+pub(super) struct Rows([Row; ASSETS]);
 
 impl Rows {
-    fn new() -> Rows {
+    pub(super) fn new() -> Rows {
         Rows([[0; ROW]; ASSETS])
     }
 
     /// Writes the numbers that differ from the row lent before.
-    fn lend(&mut self, script: &mut Script, asset: usize, row: &Row) {
+    pub(super) fn lend(&mut self, script: &mut Script, asset: usize, row: &Row) {
         for number in (0..ROW).filter(|&number| row[number] != self.0[asset][number]) {
             script.set(clearing_place(asset, number), row[number]);
         }
@@ -208,7 +214,7 @@ pub fn session() -> Case {
     let mut script = Script::new("sums");
     let mut rows = Rows::new();
     for (account, sum) in SUMS.iter().enumerate() {
-        sum.play(&mut script, account as i64, &mut rows);
+        sum.play(&mut script, &[account as i64], &mut rows);
     }
     rows.lend(&mut script, 0, &row_a());
     let last = ACCOUNTS as i64 - 1;

@@ -1,6 +1,6 @@
 //! Coverage of the calls: every code each can answer, two codes at once, the edge of the limit, the bounds of a block.
 
-use super::{Step, account_of, tally::Tally};
+use super::{Step, account_of, tally::Tally, trouble};
 use crate::asset::Asset;
 use crate::block::{self, Block, COLLATERAL, holding_start};
 use crate::calls::{self, BUY, Change, DONE, Move, Order, RUBLES, Refusal, make};
@@ -35,7 +35,7 @@ const ROLL: &str = "rolls";
 /// The first number that is no asset's.
 const NO_ASSET: i64 = ASSETS as i64;
 const OUT_OF_BOUNDS: u8 = Refusal::OutOfBounds as u8;
-const LIMIT_BELOW_ZERO: u8 = Refusal::LimitBelowZero as u8;
+pub const LIMIT_BELOW_ZERO: u8 = Refusal::LimitBelowZero as u8;
 
 /// The codes that sessions show.
 pub fn expect_codes(tally: &mut Tally) {
@@ -58,6 +58,7 @@ pub fn expect(tally: &mut Tally) {
     let moves = ["deposit that leaves less than 0", "withdrawal from less than 0", "deposit below a limit of 0"];
     tally.expect(MOVE, moves);
     tally.expect(ROLL, ["with an unlisted holding", "with later dates to move"]);
+    trouble::expect(tally);
 }
 
 pub fn count_code(step: &Step, tally: &mut Tally) {
@@ -93,7 +94,7 @@ fn count_edge<const COUNT: usize>(call: &str, step: &Step, block: &Block, change
     tally.count(EDGE, format!("{call}: {edge}"));
 }
 
-fn limit_after<const COUNT: usize>(block: &Block, changes: [Change; COUNT], tables: &Tables) -> i64 {
+pub fn limit_after<const COUNT: usize>(block: &Block, changes: [Change; COUNT], tables: &Tables) -> i64 {
     let mut block = *block;
     make(&mut block, changes);
     figures(&block, tables).limit()
@@ -111,6 +112,7 @@ pub fn count_order(step: &Step, order: &Order, tally: &mut Tally) {
     count_bounds(units, trade, [i64::MIN + 1, MOST_UNITS], step.code, tally);
     count_bounds("net", net, [-MOST_RUBLES, MOST_RUBLES], step.code, tally);
     count_edge("order", step, block, changes, tally);
+    trouble::count_order(step, order, block, changes, tally);
     if step.code == DONE {
         let sum = |block: &Block| {
             let holding = &block::holdings(block)[asset];
@@ -144,8 +146,9 @@ fn count_pair(step: &Step, order: &Order, tally: &mut Tally) {
         let block = step.before.block(account);
         let changes = order.changes(block, asset, date);
         codes.extend(calls::leave_in_bounds(changes).err());
-        let judged = order.amounts().is_ok() && limit_after(block, changes, &tables) < 0;
-        codes.extend(judged.then_some(Refusal::LimitBelowZero));
+        if order.amounts().is_ok() {
+            codes.extend(calls::admit(&mut block.clone(), changes, &tables).err());
+        }
     }
     if let [first, second, ..] = codes[..] {
         let pair = format!("{} before {}", first as u8, second as u8);
@@ -165,6 +168,7 @@ pub fn count_move(step: &Step, wanted: &Move, tally: &mut Tally) {
     if wanted.amount < 0 {
         count_bounds(&format!("withdrawal of {what}"), after, [0, i64::MAX - 1], step.code, tally);
         count_edge(&format!("withdrawal of {what}"), step, block, [Change { place, after }], tally);
+        trouble::count_withdrawal(step, block, Change { place, after }, tally);
         let below = step.code == OUT_OF_BOUNDS && block[place] < 0;
         tally.count_if(below, MOVE, "withdrawal from less than 0");
     } else if [DONE, OUT_OF_BOUNDS].contains(&step.code) {

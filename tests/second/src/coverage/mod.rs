@@ -10,6 +10,7 @@ mod script_cover;
 pub mod scripts;
 mod tables;
 mod tally;
+mod trouble;
 
 pub use tally::Tally;
 

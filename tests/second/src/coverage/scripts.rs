@@ -2,7 +2,7 @@
 //! scripts reach of all that sessions reach.
 
 use super::{State, Step, account_of, calls, count_call, figures, script_arguments, script_blocks, script_cover};
-use super::{tables, tally::Tally};
+use super::{tables, tally::Tally, trouble};
 use crate::calls::{DONE, Refusal};
 use crate::frame::Frame;
 use crate::script::{Answer, Buffer, Buffers, Command, obey};
@@ -67,6 +67,7 @@ pub fn expected() -> Tally {
     script_blocks::expect(&mut tally);
     script_cover::expect(&mut tally);
     calls::expect(&mut tally);
+    trouble::expect_far(&mut tally);
     tables::expect(&mut tally);
     figures::expect(&mut tally);
     tally
@@ -179,5 +180,7 @@ fn count_at_right_lengths(
         _ => return,
     };
     let [before, after] = [before, after].map(|buffers| State { book: buffers.book(), lent: buffers.lent() });
-    count_call(&Step { frame: &frame, code, before, after }, tally);
+    let step = Step { frame: &frame, code, before, after };
+    trouble::count_far(&step, tally);
+    count_call(&step, tally);
 }

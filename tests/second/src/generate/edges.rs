@@ -2,31 +2,22 @@
 
 use super::maker::{self, Maker};
 use crate::block::{self, COLLATERAL, holding_start};
-use crate::calls::{BUY, SELL, make};
+use crate::calls::{BUY, SELL};
 use crate::frame::Frame;
 use crate::units::*;
 
-/// An order that would leave the limit at −1, then the same one kopeck or two better.
+/// An order that would leave the limit at −1, then the same one kopeck or two better. From below zero −1 could be
+/// admitted: that is trouble's.
 pub fn order(maker: &mut Maker) {
-    let (Some(account), Some(asset)) = (maker.ready_account(), maker.asset(true)) else { return };
+    let (Some(account), Some(asset)) = (maker.account_with(|limit| limit >= 0), maker.asset(true)) else { return };
     let date = maker.random.below(DATES);
     let quantity = maker.random.up_to(1_000).max(1);
+    let admitted = maker.random.pick(&[0, 0, 1]);
     for side in [BUY, SELL] {
-        let free = maker::order(account, asset, date, side, quantity, 0);
-        let limit = maker.limit_after(account, |block| {
-            let changes = free.changes(block, asset, date);
-            make(block, changes);
-        });
-        // A buy pays the money out of the limit, a sell into it.
-        let sign = if side == BUY { 1 } else { -1 };
-        let money = |after: i64| sign * (limit - after);
-        if !(1..MOST_RUBLES).contains(&money(0)) {
-            continue;
-        }
-        let admitted = maker.random.pick(&[0, 0, 1]);
-        for after in [-1, admitted] {
-            maker.say(&Frame::Order(maker::order(account, asset, date, side, quantity, money(after))));
-        }
+        let steered = maker.steered(maker::order(account, asset, date, side, quantity, 0));
+        let [Some(first), Some(second)] = [-1, admitted].map(|after| steered.leaving(after)) else { continue };
+        maker.say(&Frame::Order(first));
+        maker.say(&Frame::Order(second));
         maker.report(account);
         return;
     }

@@ -1,5 +1,6 @@
 //! The session being made: each line is also answered at once, so that the scenes can steer by the state it leads to.
 
+use super::Steered;
 use super::random::Random;
 use crate::asset::Asset;
 use crate::block::{self, Block};
@@ -100,7 +101,12 @@ impl Maker {
 
     /// An account that is open, under sound tables, and all whose holdings are listed.
     pub fn ready_account(&mut self) -> Option<usize> {
-        let ready = |&account: &usize| self.limit(account).is_some();
+        self.account_with(|_| true)
+    }
+
+    /// A ready account whose limit is as asked.
+    pub fn account_with(&mut self, is_asked: impl Fn(i64) -> bool) -> Option<usize> {
+        let ready = |&account: &usize| self.limit(account).is_some_and(&is_asked);
         let accounts: Vec<_> = (0..ACCOUNTS).filter(ready).collect();
         (!accounts.is_empty()).then(|| self.random.pick(&accounts))
     }
@@ -126,9 +132,14 @@ impl Maker {
         is_present(&self.tables().own[asset])
     }
 
+    /// The first place of the row in force.
+    pub fn start_in_force(&self, asset: usize) -> usize {
+        if self.has_own_row(asset) { own_place(asset, 0) } else { clearing_place(asset, 0) }
+    }
+
     /// Sets a number of the row in force, where it differs.
     pub fn set_in_force(&mut self, asset: usize, number: usize, value: i64) {
-        let place = if self.has_own_row(asset) { own_place(asset, number) } else { clearing_place(asset, number) };
+        let place = self.start_in_force(asset) + number;
         if self.parameter(place) != value {
             self.set(place, value);
         }
@@ -150,6 +161,11 @@ impl Maker {
         let mut block = *self.block(account);
         change(&mut block);
         figures(&block, &self.tables()).limit()
+    }
+
+    /// An order of a ready account, for nothing, whose money is to be chosen.
+    pub fn steered(&self, free: Order) -> Steered {
+        Steered::new(free, self.block(free.account as usize), &self.tables())
     }
 
     pub fn positions(&self, account: usize, asset: usize) -> [i64; DATES] {

@@ -1,5 +1,5 @@
-//! Session inputs that reach every rule of document 01 often: scenes, drawn by weight, that keep the tables sound most
-//! of the time. The same bytes for the same seed and count of lines.
+//! Session inputs that reach every rule of document 01 and #101 of document 02 often: scenes, drawn by weight, that keep
+//! the tables sound most of the time. The same bytes for the same seed and count of lines.
 
 mod bounds;
 mod edges;
@@ -8,16 +8,19 @@ mod maker;
 mod random;
 mod regimes;
 mod rows;
+mod steered;
 mod trades;
+mod trouble;
 
 pub use faults::HUGE;
 pub use random::Random;
 pub use rows::{bounds_at, draw as draw_row, settle};
+pub use steered::Steered;
 
 use maker::Maker;
 
 /// How often each scene is drawn, in parts of their sum.
-const SCENES: [(usize, fn(&mut Maker)); 24] = [
+const SCENES: [(usize, fn(&mut Maker)); 26] = [
     (64, rows::number_past_its_bound),
     (30, rows::number_at_its_bound),
     (6, rows::unlisted_row_broken),
@@ -39,6 +42,8 @@ const SCENES: [(usize, fn(&mut Maker)); 24] = [
     (10, edges::order),
     (6, edges::withdrawal_of_rubles),
     (6, edges::withdrawal_of_units),
+    (3, trouble::orders),
+    (3, trouble::withdrawals),
     (7, bounds::scene),
     (22, faults::call),
     (14, faults::line),

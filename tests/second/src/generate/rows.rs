@@ -96,7 +96,7 @@ fn some_number(random: &mut Random) -> usize {
 }
 
 /// Sets what differs.
-fn write(maker: &mut Maker, start: usize, row: &Row) {
+pub fn write(maker: &mut Maker, start: usize, row: &Row) {
     for (number, &wanted) in row.iter().enumerate() {
         if maker.parameter(start + number) != wanted {
             maker.set(start + number, wanted);

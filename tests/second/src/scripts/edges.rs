@@ -15,29 +15,37 @@ pub fn of(maker: &mut Maker, wanted: &Buffers, account: usize) {
     let scene = Scene { wanted, account, asset };
     scene.limit_after_order(maker);
     scene.limit_after_withdrawals(maker);
+    scene.trouble(maker);
     scene.moves(maker);
     scene.orders(maker);
     scene.rolls(maker);
 }
 
-struct Scene<'a> {
-    wanted: &'a Buffers,
-    account: usize,
-    asset: usize,
+pub struct Scene<'a> {
+    pub wanted: &'a Buffers,
+    pub account: usize,
+    pub asset: usize,
 }
 
 impl Scene<'_> {
     /// The call on the account's block with some numbers changed.
-    fn call(&self, maker: &mut Maker, changes: &[(usize, i64)], call: Command) {
+    pub fn call(&self, maker: &mut Maker, changes: &[(usize, i64)], call: Command) {
         let mut wanted = self.wanted.clone();
-        for &(place, value) in changes {
-            wanted.block_mut(self.account)[place] = value;
-        }
+        *wanted.block_mut(self.account) = self.block_with(changes);
         maker.lend(&wanted);
         maker.call(call);
     }
 
-    fn limit(&self, block: &Block) -> i64 {
+    /// The account's block with some numbers changed.
+    pub fn block_with(&self, changes: &[(usize, i64)]) -> Block {
+        let mut block = *self.wanted.block(self.account);
+        for &(place, value) in changes {
+            block[place] = value;
+        }
+        block
+    }
+
+    pub fn limit(&self, block: &Block) -> i64 {
         figures(block, &self.wanted.tables().expect("right lengths")).limit()
     }
 
@@ -56,27 +64,25 @@ impl Scene<'_> {
     }
 
     fn limit_after_order(&self, maker: &mut Maker) {
-        let date = maker.random.below(DATES);
-        let quantity = maker.random.up_to(1_000).max(1);
         let money = maker.random.up_to(1_000_000);
         for side in [BUY, SELL] {
-            let order = Order {
-                account: self.account as i64,
-                asset: self.asset as i64,
-                date: date as i64,
-                side,
-                quantity,
-                money,
-            };
+            let order = Order { money, ..self.some_order(maker, side) };
             let change = |block: &mut Block| {
-                let changes = order.changes(block, self.asset, date);
+                let changes = order.changes(block, self.asset, order.date as usize);
                 make(block, changes);
             };
             self.around_zero(maker, change, Command::Order(order));
         }
     }
 
-    fn limit_after_withdrawals(&self, maker: &mut Maker) {
+    /// For nothing.
+    pub fn some_order(&self, maker: &mut Maker, side: i64) -> Order {
+        let date = maker.random.below(DATES) as i64;
+        let quantity = maker.random.up_to(1_000).max(1);
+        Order { account: self.account as i64, asset: self.asset as i64, date, side, quantity, money: 0 }
+    }
+
+    pub fn limit_after_withdrawals(&self, maker: &mut Maker) {
         let place = holding_start(self.asset) + COLLATERAL;
         let held = self.wanted.block(self.account)[place];
         if held > 0 {

@@ -11,6 +11,7 @@ mod maker;
 mod pairs;
 mod places;
 mod sessions;
+mod trouble;
 
 pub use blocks::bounds_of;
 pub use pairs::{CALLS as PAIRS, title as pair};

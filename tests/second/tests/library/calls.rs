@@ -49,16 +49,14 @@ fn codes_of_report_in_order() {
 
 #[test]
 fn codes_of_order_in_order() {
-    let order = Order { account: 2, asset: 1, date: 1, side: BUY, quantity: 1_000_000, money: 0 };
+    // It costs more than the units are worth, so that the limit falls by it.
+    let order = Order { account: 2, asset: 1, date: 1, side: BUY, quantity: 1_000_000, money: 100_000_000_000_000 };
     let list = |world: &mut World| {
         world.list(1, &row_a());
         world.block(2)[claim(1, 1)] = 1;
     };
-    let room = |world: &mut World| {
-        world.block(2)[claim(1, 1)] = 0;
-        world.block(2)[2] = -100_000_000_000_000;
-    };
-    let limit = |world: &mut World| world.block(2)[2] = 0;
+    let room = |world: &mut World| world.block(2)[claim(1, 1)] = 0;
+    let limit = |world: &mut World| world.block(2)[1] = 100_000_000_000_000;
     let unlisted = |world: &mut World| world.block(2)[obligation(5, 3)] = 1;
     let listed = |world: &mut World| world.block(2)[obligation(5, 3)] = 0;
     let steps: [(u8, &dyn Fn(&mut World)); 9] = [

@@ -1,5 +1,5 @@
-//! The library's tests: document 01's sums and session, the table check, the calls, session lines and call
-//! scripts.
+//! The library's tests: document 01's sums and session, the table check, the calls, trading out of trouble, session
+//! lines and call scripts.
 
 mod blocks;
 mod calls;
@@ -8,4 +8,5 @@ mod script;
 mod session;
 mod sums;
 mod tables;
+mod trouble;
 mod world;
