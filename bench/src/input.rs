@@ -1,6 +1,7 @@
-//! The tables, book and orders that both programs get. Every listed asset has another row and every account another block, so
+//! The tables, books and orders that both programs get. Every listed asset has another row and every account another block, so
 //! that no branch goes the same way for long: kinds 1 to 3, own rows over some assets, special delivery, not recorded, partial,
 //! shares of 0 and of the whole, several spread groups, positions of either sign, above and below the concentration limits.
+//! In trouble the accounts hold the same assets and owe rubles.
 
 use second::block::{CLAIMS, COLLATERAL, NETS, OBLIGATIONS, RUBLES, holding_start};
 use second::calls::{BUY, Order, SELL};
@@ -12,49 +13,79 @@ use second::units::*;
 const RUBLES_HELD: i64 = 2_000_000_000;
 const REFUSED_MONEY: i64 = 500_000_000_000;
 const REFUSED_UNITS: i64 = 900_000;
+/// Rubles that keep every account's limit below 0, also after an order that raises it.
+const RUBLES_OWED: i64 = -2_000_000_000;
+/// An order of so few units for so much money: the money decides whether it lowers or raises the limit.
+const FEW_UNITS: i64 = 3;
+const MONEY: i64 = 2_000_000;
 
 pub struct Input {
+    pub tables: Tables,
+    /// What reports are asked of: every account's limit is above 0.
+    pub book: Vec<i64>,
+    /// The limit after each is zero or more: the first ground.
+    pub admitted: Orders,
+    /// The limit before each is above 0, the limit after it negative.
+    pub refused: Orders,
+    /// The limit before each is negative, and it lowers or keeps it.
+    pub trouble_refused: Orders,
+    /// The limit before each is negative, and the limit after it greater and still negative: the second ground.
+    pub trouble_admitted: Orders,
+}
+
+pub struct Tables {
     pub clearing: Vec<i64>,
     pub own: Vec<i64>,
     pub groups: Vec<i64>,
+}
+
+/// Orders, the book that each of them is asked of, whichever were taken back before it, and the code of each.
+pub struct Orders {
     pub book: Vec<i64>,
-    /// Each is admitted, whichever of the others were taken back before it.
-    pub admitted: Vec<Order>,
-    /// Each is refused with code 10.
-    pub refused: Vec<Order>,
+    pub wanted: Vec<Order>,
+    pub code: u8,
 }
 
 impl Input {
     /// With the first `listed` assets listed, and each of them held in every account.
     pub fn new(listed: usize) -> Input {
-        let mut input = Input {
-            clearing: vec![0; TABLE],
-            own: vec![0; TABLE],
-            groups: (0..GROUPS as i64).map(|group| 10 + 5 * group).collect(),
-            book: vec![0; BOOK],
-            admitted: Vec::new(),
-            refused: Vec::new(),
-        };
+        let healthy = book(listed, RUBLES_HELD);
+        let troubled = book(listed, RUBLES_OWED);
+        Input {
+            tables: Tables::new(listed),
+            admitted: Orders::new(&healthy, 0, |number| order(number, listed, FEW_UNITS, MONEY)),
+            refused: Orders::new(&healthy, 10, |number| refused(number, listed)),
+            trouble_refused: Orders::new(&troubled, 10, |number| lowering(number, listed)),
+            trouble_admitted: Orders::new(&troubled, 0, |number| raising(number, listed)),
+            book: healthy,
+        }
+    }
+}
+
+impl Tables {
+    fn new(listed: usize) -> Tables {
+        let groups = (0..GROUPS as i64).map(|group| 10 + 5 * group).collect();
+        let mut tables = Tables { clearing: vec![0; TABLE], own: vec![0; TABLE], groups };
         for asset in 0..listed {
             let place = ROW * asset..ROW * (asset + 1);
-            write_row(&mut input.clearing[place.clone()], asset as i64, 0);
+            write_row(&mut tables.clearing[place.clone()], asset as i64, 0);
             // An own row stands over five of the sixteen assets, with other numbers than the clearing row's.
             if asset % 3 == 1 {
-                write_row(&mut input.own[place], asset as i64, 7);
+                write_row(&mut tables.own[place], asset as i64, 7);
             }
         }
-        for account in 0..ACCOUNTS {
-            write_block(&mut input.book[BLOCK * account..BLOCK * (account + 1)], account as i64, listed);
-        }
-        for number in 0..(ACCOUNTS * ASSETS) as i64 {
-            input.admitted.push(order(number, listed, 3, 2_000_000));
-            input.refused.push(refused(number, listed));
-        }
-        input
+        tables
     }
 
     pub fn lent(&self) -> Lent<'_> {
         Lent { clearing: &self.clearing, own: &self.own, groups: &self.groups }
+    }
+}
+
+impl Orders {
+    fn new(book: &[i64], code: u8, wanted: impl Fn(i64) -> Order) -> Orders {
+        let wanted = (0..(ACCOUNTS * ASSETS) as i64).map(wanted).collect();
+        Orders { book: book.to_vec(), wanted, code }
     }
 }
 
@@ -85,10 +116,18 @@ fn write_row(numbers: &mut [i64], asset: i64, more: i64) {
     }
 }
 
+fn book(listed: usize, rubles: i64) -> Vec<i64> {
+    let mut book = vec![0; BOOK];
+    for account in 0..ACCOUNTS {
+        write_block(&mut book[BLOCK * account..BLOCK * (account + 1)], account as i64, listed, rubles);
+    }
+    book
+}
+
 /// An open account that holds something of each listed asset on each date.
-fn write_block(block: &mut [i64], account: i64, listed: usize) {
+fn write_block(block: &mut [i64], account: i64, listed: usize, rubles: i64) {
     block[0] = 1 + account % 3;
-    block[RUBLES] = RUBLES_HELD + 1_000 * account;
+    block[RUBLES] = rubles + 1_000 * account;
     for date in NETS {
         block[date] = 250_000 * (date as i64 - 5) + account;
     }
@@ -123,4 +162,18 @@ fn refused(number: i64, listed: usize) -> Order {
         SELL => Order { quantity: REFUSED_UNITS, money: 0, ..wanted },
         _ => wanted,
     }
+}
+
+/// In trouble: a buy for more money than its units are worth, or a sale for none.
+fn lowering(number: i64, listed: usize) -> Order {
+    let wanted = order(number, listed, FEW_UNITS, MONEY);
+    match wanted.side {
+        SELL => Order { money: 0, ..wanted },
+        _ => wanted,
+    }
+}
+
+/// In trouble: a sale for more money than its units are worth.
+fn raising(number: i64, listed: usize) -> Order {
+    Order { side: SELL, ..order(number, listed, FEW_UNITS, MONEY) }
 }

@@ -1,29 +1,33 @@
 //! Before anything is timed: both programs must answer every call of the input with the same code, the same figures and the
-//! same book afterwards, and with the code that the input was made for.
+//! same book afterwards, and with the code that the input was made for; and the limits must be those that it was made for.
 
 use second::calls::{self, Order, code};
 use second::limit::Figures;
 use second::units::ACCOUNTS;
 
 use crate::engine::{self, Five};
-use crate::input::Input;
+use crate::input::{Input, Orders, Tables};
 
 /// Stops the program where they differ.
 pub fn check(input: &Input) {
-    let lent = input.lent();
-    assert_eq!(engine::check_tables(&lent), (0, 0), "the engine's table check");
-    assert_eq!(calls::check_tables(&lent), (0, 0), "the second program's table check");
+    let Input { tables, book, admitted, refused, trouble_refused, trouble_admitted } = input;
+    assert_eq!(engine::check_tables(&tables.lent()), (0, 0), "the engine's table check");
+    assert_eq!(calls::check_tables(&tables.lent()), (0, 0), "the second program's table check");
     for account in 0..ACCOUNTS as i64 {
-        let second = calls::report(&input.book, &lent, account).expect("the second program reports");
-        assert_eq!(engine::report(&input.book, &lent, account), (0, five(second)), "report of account {account}");
+        limit(tables, book, account);
     }
-    for order in &input.admitted {
-        check_order(input, order, 0);
-    }
-    for order in &input.refused {
-        check_order(input, order, 10);
-    }
-    check_broken(input);
+    check_orders(tables, admitted, |before, after| before > 0 && after >= 0);
+    check_orders(tables, refused, |before, _| before > 0);
+    check_orders(tables, trouble_refused, |before, _| before < 0);
+    check_orders(tables, trouble_admitted, |before, after| before < after && after < 0);
+    check_broken(tables);
+}
+
+/// An account's limit, by both programs' reports.
+fn limit(tables: &Tables, book: &[i64], account: i64) -> i64 {
+    let figures = calls::report(book, &tables.lent(), account).expect("the second program reports");
+    assert_eq!(engine::report(book, &tables.lent(), account), (0, five(figures)), "report of account {account}");
+    figures.limit()
 }
 
 fn five(figures: Figures) -> Five {
@@ -31,21 +35,33 @@ fn five(figures: Figures) -> Five {
     [valuation, market_risk, interest_risk, discount, figures.limit()]
 }
 
-fn check_order(input: &Input, order: &Order, expected: u8) {
-    let mut engine_book = input.book.clone();
-    let mut second_book = input.book.clone();
-    let engine_code = engine::order(&mut engine_book, &input.lent(), order);
-    let second_code = code(&calls::order(&mut second_book, &input.lent(), order));
-    assert_eq!((engine_code, second_code), (expected, expected), "codes of an order");
+/// `made_for` is asked of the limits of the books before and after; a refused order leaves the same book.
+fn check_orders(tables: &Tables, orders: &Orders, made_for: impl Fn(i64, i64) -> bool) {
+    for order in &orders.wanted {
+        let before = limit(tables, &orders.book, order.account);
+        let after = limit(tables, &booked(tables, orders, order), order.account);
+        assert!(made_for(before, after), "limits of {before} and {after}, which the order was not made for");
+    }
+}
+
+/// The book after an order, the same of both programs.
+fn booked(tables: &Tables, orders: &Orders, order: &Order) -> Vec<i64> {
+    let mut engine_book = orders.book.clone();
+    let mut second_book = orders.book.clone();
+    let engine_code = engine::order(&mut engine_book, &tables.lent(), order);
+    let second_code = code(&calls::order(&mut second_book, &tables.lent(), order));
+    assert_eq!((engine_code, second_code), (orders.code, orders.code), "codes of an order");
     assert!(engine_book == second_book, "the book after an order");
-    assert_eq!(engine_book == input.book, expected != 0, "a refused order changes nothing, an admitted one something");
+    let changed = engine_book != orders.book;
+    assert_eq!(changed, orders.code == 0, "a refused order changes nothing, an admitted one something");
+    engine_book
 }
 
 /// A broken last number shows that both really look at the whole of the tables.
-fn check_broken(input: &Input) {
-    let mut groups = input.groups.clone();
+fn check_broken(tables: &Tables) {
+    let mut groups = tables.groups.clone();
     *groups.last_mut().expect("eight groups") = 51;
-    let lent = second::tables::Lent { groups: &groups, ..input.lent() };
+    let lent = second::tables::Lent { groups: &groups, ..tables.lent() };
     assert_eq!(engine::check_tables(&lent), (2, 2055), "the engine's place");
     assert_eq!(calls::check_tables(&lent), (2, 2055), "the second program's place");
 }

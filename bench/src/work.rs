@@ -4,10 +4,11 @@ use std::hint::black_box;
 
 use second::block::{CLAIMS, NETS, OBLIGATIONS, holding_start};
 use second::calls::{self, BUY, Order, code};
+use second::tables::Lent;
 use second::units::{ACCOUNTS, BLOCK};
 
 use crate::engine;
-use crate::input::Input;
+use crate::input::{Input, Orders};
 
 /// Whose calls.
 #[derive(Clone, Copy, PartialEq)]
@@ -23,9 +24,19 @@ pub enum Call {
     Report,
     OrderAdmitted,
     OrderRefused,
+    TroubleRefused,
+    TroubleAdmitted,
 }
 
-pub const CALLS: [Call; 4] = [Call::CheckTables, Call::Report, Call::OrderAdmitted, Call::OrderRefused];
+pub const COUNT: usize = 6;
+pub const CALLS: [Call; COUNT] = [
+    Call::CheckTables,
+    Call::Report,
+    Call::OrderAdmitted,
+    Call::OrderRefused,
+    Call::TroubleRefused,
+    Call::TroubleAdmitted,
+];
 
 impl Call {
     pub fn name(self) -> &'static str {
@@ -34,27 +45,33 @@ impl Call {
             Call::Report => "report",
             Call::OrderAdmitted => "order admitted",
             Call::OrderRefused => "order refused (10)",
+            Call::TroubleRefused => "order in trouble, refused (10)",
+            Call::TroubleAdmitted => "order in trouble, admitted",
         }
     }
 
     /// Makes `count` calls. black_box hides from the compiler that the inputs are the same as before and the answers are
     /// hardly used, so it can neither move a call out of the loop nor leave one out.
     pub fn run(self, side: Side, input: &mut Input, count: usize) -> usize {
+        let Input { tables, book, admitted, refused, trouble_refused, trouble_admitted } = input;
+        let lent = &tables.lent();
         match (self, side) {
             (Call::CheckTables, Side::Engine) => {
-                tally(count, |_| black_box(engine::check_tables(black_box(&input.lent()))).0 == 0)
+                tally(count, |_| black_box(engine::check_tables(black_box(lent))).0 == 0)
             }
             (Call::CheckTables, Side::Second) => {
-                tally(count, |_| black_box(calls::check_tables(black_box(&input.lent()))).0 == 0)
+                tally(count, |_| black_box(calls::check_tables(black_box(lent))).0 == 0)
             }
-            (Call::Report, Side::Engine) => tally(count, |turn| {
-                black_box(engine::report(black_box(&input.book), &input.lent(), account(turn))).0 == 0
-            }),
-            (Call::Report, Side::Second) => tally(count, |turn| {
-                black_box(calls::report(black_box(&input.book), &input.lent(), account(turn))).is_ok()
-            }),
-            (Call::OrderAdmitted, side) => orders(side, input, count, 0),
-            (Call::OrderRefused, side) => orders(side, input, count, 10),
+            (Call::Report, Side::Engine) => {
+                tally(count, |turn| black_box(engine::report(black_box(book), lent, account(turn))).0 == 0)
+            }
+            (Call::Report, Side::Second) => {
+                tally(count, |turn| black_box(calls::report(black_box(book), lent, account(turn))).is_ok())
+            }
+            (Call::OrderAdmitted, side) => orders(side, lent, admitted, count),
+            (Call::OrderRefused, side) => orders(side, lent, refused, count),
+            (Call::TroubleRefused, side) => orders(side, lent, trouble_refused, count),
+            (Call::TroubleAdmitted, side) => orders(side, lent, trouble_admitted, count),
         }
     }
 }
@@ -69,22 +86,20 @@ fn account(turn: usize) -> i64 {
 
 /// An order that is admitted is taken back at once by putting its two numbers back: the book neither grows nor reaches a bound,
 /// and for both programs that costs the same two writes.
-fn orders(side: Side, input: &mut Input, count: usize, expected: u8) -> usize {
-    let Input { clearing, own, groups, book, admitted, refused } = input;
-    let lent = second::tables::Lent { clearing, own, groups };
-    let wanted: &[Order] = if expected == 0 { admitted } else { refused };
+fn orders(side: Side, lent: &Lent, orders: &mut Orders, count: usize) -> usize {
+    let Orders { book, wanted, code: expected } = orders;
     tally(count, |turn| {
         let order = black_box(&wanted[turn % wanted.len()]);
         let places = places(order);
         let before = places.map(|place| book[place]);
         let answer = match side {
-            Side::Engine => engine::order(black_box(book), &lent, order),
-            Side::Second => code(&calls::order(black_box(book), &lent, order)),
+            Side::Engine => engine::order(black_box(book), lent, order),
+            Side::Second => code(&calls::order(black_box(book), lent, order)),
         };
         for (place, number) in places.into_iter().zip(before) {
             book[place] = number;
         }
-        answer == expected
+        answer == *expected
     })
 }
 

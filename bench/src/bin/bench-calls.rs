@@ -1,10 +1,10 @@
 //! Times the calls, for 1, 4 and 16 listed assets. Lines on standard output, tab-separated: `speed` (rounds.rs) and `cost`, what
-//! an order costs in reports of the same accounts.
+//! an order costs in reports of accounts that hold the same assets.
 
 use bench::input::Input;
 use bench::rounds::{self, ROUNDS, Times};
 use bench::same;
-use bench::work::{CALLS, Call, Side};
+use bench::work::{CALLS, COUNT, Call, Side};
 
 fn main() {
     for listed in [1, 4, 16] {
@@ -19,12 +19,12 @@ fn main() {
 }
 
 /// Of each call the times of engine and second.
-fn measure(input: &mut Input) -> [[Times; 2]; 4] {
+fn measure(input: &mut Input) -> [[Times; 2]; COUNT] {
     let counts = CALLS.map(|call| {
         let sides = [Side::Engine, Side::Second];
         sides.map(|side| rounds::enough(|count| timed(call, side, input, count))).into_iter().max().expect("two sides")
     });
-    let mut times = [const { [const { Times::new() }; 2] }; 4];
+    let mut times = [const { [const { Times::new() }; 2] }; COUNT];
     for round in 0..ROUNDS {
         for (at, call) in CALLS.into_iter().enumerate() {
             // Who goes first changes from round to round.
@@ -43,10 +43,10 @@ fn timed(call: Call, side: Side, input: &mut Input, count: usize) {
     assert_eq!(call.run(side, input, count), count, "{}: an answer changed on the way", call.name());
 }
 
-/// Reports go with both kinds of orders in the same rounds, so this is a ratio taken in turn too.
-fn print_costs(listed: usize, times: &[[Times; 2]; 4]) {
-    let [_, report, admitted, refused] = times;
-    for (call, order) in [(Call::OrderAdmitted, admitted), (Call::OrderRefused, refused)] {
+/// Reports go with every kind of order in the same rounds, so this is a ratio taken in turn too.
+fn print_costs(listed: usize, times: &[[Times; 2]; COUNT]) {
+    let [_, report, orders @ ..] = times;
+    for (call, order) in CALLS[COUNT - orders.len()..].iter().zip(orders) {
         let [engine, second] = [0, 1].map(|side| rounds::ratio(&report[side], &order[side]));
         print!("cost\t{}\t{listed}", call.name());
         for [middle, least, greatest] in [engine, second] {
