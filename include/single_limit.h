@@ -21,8 +21,8 @@
 extern "C" {
 #endif
 
-/* The version of this face: the first number changes where a program must. */
-#define SINGLE_LIMIT_VERSION "1.0.0"
+/* The version of this face: the first number changes where a program must, the second where an answer does. */
+#define SINGLE_LIMIT_VERSION "1.1.0"
 
 /* Accounts 0 to 15, assets 0 to 15, dates 0 to 7 (date 0 is T0), groups 1 to 8. */
 #define SINGLE_LIMIT_ACCOUNTS 16
@@ -178,7 +178,8 @@ static inline const char *single_limit_words(uint8_t code) {
         return "quantity not 1 to 10^6; order money not 0 to 10^14; move 0, or beyond 10^6 either way (10^14 for rubles)";
     case SINGLE_LIMIT_REFUSED_OUT_OF_BOUNDS:
         return "a number would leave its bounds, or a withdrawal would leave collateral below 0";
-    case SINGLE_LIMIT_REFUSED_NEGATIVE_LIMIT: return "limit after an order or withdrawal would be negative";
+    case SINGLE_LIMIT_REFUSED_NEGATIVE_LIMIT:
+        return "limit after a withdrawal would be negative, or after an order negative and not raised by it";
     default: return "not a code of the engine";
     }
 }
@@ -228,7 +229,8 @@ uint8_t single_limit_move(int64_t *book, size_t book_length, const int64_t *clea
                           size_t own_length, const int64_t *groups, size_t groups_length, int64_t account, int64_t asset,
                           int64_t amount);
 
-/* Order: side 0 buys, 1 sells. Booked as a trade at once where the code is 0; money is of the whole order, not of a unit. */
+/* Order: side 0 buys, 1 sells; money is of the whole order, not of a unit. Booked as a trade at once where it is admitted: the limit after it is
+ * zero or more, or above the limit before it. Then the code is 0. */
 uint8_t single_limit_order(int64_t *book, size_t book_length, const int64_t *clearing, size_t clearing_length, const int64_t *own,
                            size_t own_length, const int64_t *groups, size_t groups_length, int64_t account, int64_t asset,
                            int64_t date, int64_t side, int64_t quantity, int64_t money);

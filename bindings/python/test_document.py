@@ -77,7 +77,7 @@ class Document(unittest.TestCase):
         book.move(tables, 0, RUBLES, 20_999)
         before = book.numbers[:]
         refusal = self.refused(Code.NEGATIVE_LIMIT, book.order, *ten)
-        self.assertEqual(str(refusal), "limit after an order or withdrawal would be negative")
+        self.assertEqual(str(refusal), "limit after a withdrawal would be negative, or after an order negative and not raised by it")
         self.assertEqual(book.numbers, before)
         book.move(tables, 0, RUBLES, 1)
         book.order(*ten)

@@ -16,4 +16,4 @@ from .engine import Book, Figures, Tables, block_at, claim_at, collateral_at, da
 from .face import load
 from .refusal import Code, Refused
 
-__version__ = "1.0.0"
+__version__ = "1.1.0"

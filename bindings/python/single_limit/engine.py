@@ -67,7 +67,8 @@ class Book:
         passed(call("move", *lent(self.numbers), *tables.lent(), *wanted))
 
     def order(self, tables, account, asset, date, side, quantity, money):
-        """Order: side BUY or SELL, money of the whole order. Booked as a trade at once where it is admitted."""
+        """Order: side BUY or SELL, money of the whole order. Booked as a trade at once where it is admitted: the limit after it is zero or
+        more, or above the limit before it."""
         wanted = map(number, (account, asset, date, side, quantity, money))
         passed(call("order", *lent(self.numbers), *tables.lent(), *wanted))
 

@@ -30,7 +30,7 @@ WORDS = {
     Code.WRONG_AMOUNT: "quantity not 1 to 10^6; order money not 0 to 10^14; "
     "move 0, or beyond 10^6 either way (10^14 for rubles)",
     Code.OUT_OF_BOUNDS: "a number would leave its bounds, or a withdrawal would leave collateral below 0",
-    Code.NEGATIVE_LIMIT: "limit after an order or withdrawal would be negative",
+    Code.NEGATIVE_LIMIT: "limit after a withdrawal would be negative, or after an order negative and not raised by it",
 }
 
 

@@ -25,7 +25,7 @@ impl Book {
         calls::move_collateral(&mut self.0[..], tables.lent(), account, asset, amount)
     }
 
-    /// Order. Booked as a trade at once where it is admitted.
+    /// Order. Booked as a trade at once where it is admitted: the limit after it is zero or more, or above the limit before it.
     pub fn order(&mut self, tables: &Tables, account: i64, wanted: &Order) -> Result<(), Refusal> {
         calls::order(&mut self.0[..], tables.lent(), account, wanted)
     }

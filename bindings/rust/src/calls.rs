@@ -96,7 +96,7 @@ pub fn move_collateral(book: &mut [i64], lent: Lent<'_>, account: i64, asset: i6
     })
 }
 
-/// Order. Booked as a trade at once where it is admitted.
+/// Order. Booked as a trade at once where it is admitted: the limit after it is zero or more, or above the limit before it.
 pub fn order(book: &mut [i64], lent: Lent<'_>, account: i64, wanted: &Order) -> Result<(), Refusal> {
     let Lent { clearing, own, groups } = lent;
     let Order { asset, date, side, quantity, money } = *wanted;

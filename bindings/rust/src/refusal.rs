@@ -25,7 +25,7 @@ pub enum Refusal {
     WrongAmount = 8,
     /// A number would leave its bounds, or a withdrawal would leave collateral below 0.
     OutOfBounds = 9,
-    /// The limit after an order or a withdrawal would be negative.
+    /// The limit after a withdrawal would be negative, or after an order negative and not raised by it.
     NegativeLimit = 10,
 }
 
@@ -68,7 +68,9 @@ impl Refusal {
                 "quantity not 1 to 10^6; order money not 0 to 10^14; move 0, or beyond 10^6 either way (10^14 for rubles)"
             }
             Refusal::OutOfBounds => "a number would leave its bounds, or a withdrawal would leave collateral below 0",
-            Refusal::NegativeLimit => "limit after an order or withdrawal would be negative",
+            Refusal::NegativeLimit => {
+                "limit after a withdrawal would be negative, or after an order negative and not raised by it"
+            }
         }
     }
 }

@@ -136,7 +136,10 @@ fn refusals() {
 
 #[test]
 fn a_refusal_in_words() {
-    assert_eq!(Refusal::NegativeLimit.to_string(), "limit after an order or withdrawal would be negative");
+    assert_eq!(
+        Refusal::NegativeLimit.to_string(),
+        "limit after a withdrawal would be negative, or after an order negative and not raised by it"
+    );
     for (at, refusal) in Refusal::ALL.into_iter().enumerate() {
         assert_eq!(refusal.code() as usize, at + 1);
     }
