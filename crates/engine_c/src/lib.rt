@@ -4,7 +4,7 @@ ghost use Rattle.rates.specs.Tables.{checkCode, checkPlace};
 ghost use Rattle.engine.specs.State.{found};
 ghost use Rattle.engine.specs.Refused.{placeOf};
 ghost use Rattle.engine.specs.Calls.{answer, outcomeOf, opening, moving, ordering, rolling};
-ghost use Rattle.engine_c.specs.Face.{terms, filled, filledReport, covered};
+ghost use Rattle.engine_c.specs.Face.{terms, filled, filledReport, filledFloats, covered, screen, screenOf};
 use book::Terms;
 use whole::codes;
 
@@ -129,4 +129,45 @@ pub extern "C" fn single_limit_report<'a>(
     figures[3] = discount;
     figures[4] = limit;
     reported.code
+}
+
+// The app's feed: the code; the floats' bits go to `bits`, five numbers, unless it is refused; the gauge goes to `gauge` as a number and to `shown`
+// as what it carries, 0 and +0.0 where it is empty.
+#[no_mangle]
+pub extern "C" fn single_limit_app<'a>(
+    book: &[i64],
+    clearing: &'a [i64],
+    own: &'a [i64],
+    groups: &[i64],
+    account: i64,
+    bits: &mut [u64],
+    gauge: &mut u8,
+    shown: &mut f64,
+) -> u8
+    ensures { λ r. ⌜ screen r bits gauge shown ≡ screenOf (given clearing own groups) (placeOf account) (found book) (now (bits .entry)) ⌝ }
+{
+    let fed = app_feed::feed(book, clearing, own, groups, account, bits);
+    let drawn = fed.gauge;
+    *gauge = app_feed::gauge::number(drawn);
+    *shown = app_feed::gauge::shown(drawn);
+    fed.code
+}
+
+// Five numbers read back: the code; the five floats go to `figures`, five of them, zeros when refused. Another length of it is code 1, and nothing is
+// written.
+#[no_mangle]
+pub extern "C" fn single_limit_app_read(bits: &[u64], figures: &mut [f64]) -> u8
+    ensures { λ r. ⌜ filled r figures ≡ filledFloats (now (bits .entry)) (now (figures .entry)) ⌝ }
+{
+    if figures.len() != FIGURES {
+        return codes::WRONG_LENGTH;
+    }
+    let received = app_feed::receive(bits);
+    let found = received.figures;
+    figures[0] = found.valuation;
+    figures[1] = found.market;
+    figures[2] = found.interest;
+    figures[3] = found.discount;
+    figures[4] = found.limit;
+    received.code
 }
