@@ -1,8 +1,8 @@
-//! The rules of document 01 in plain Rust, in the document's order, with request #101 of document 02: the second program
-//! that the engine is compared with, written from the documents and the readings of them in docs/DECISIONS.md. Numbers
-//! are i64 as the document has them. Of a sound block under sound tables nothing on the way reaches 10^18, and every
-//! build stops at a sum or product that would wrap. Sums of unchecked numbers saturate, which leaves them past every
-//! bound, or are taken in 128 bits.
+//! The rules of document 01 in plain Rust, in the document's order, with requests #101 and #102 of document 02: the second
+//! program that the engine is compared with, written from the documents and the readings of them in docs/DECISIONS.md.
+//! Numbers are i64 as the document has them, but for the phone app's floats. Of a sound block under sound tables nothing
+//! on the way reaches 10^18, and every build stops at a sum or product that would wrap. Sums of unchecked numbers
+//! saturate, which leaves them past every bound, or are taken in 128 bits.
 
 #[macro_use]
 mod mutant;
@@ -22,6 +22,10 @@ pub mod interest;
 pub mod limit;
 pub mod market;
 pub mod valuation;
+
+// Figures for the phone app.
+pub mod gauge;
+pub mod record;
 
 // Calls and turning away; session lines; call scripts.
 pub mod calls;

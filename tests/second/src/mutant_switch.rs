@@ -129,7 +129,44 @@ mutants! {
     CoverOfRaisedRise,
     CoverOfClearingRow,
     CoverNotAtTheEdge,
-    UnlistedRowCovers,;
+    UnlistedRowCovers,
+    // Figures for the phone app: the record and its bits.
+    MarketInPlaceOfInterest,
+    LimitWrittenFirst,
+    ZeroIsNegative,
+    RoundedToSingle,
+    // The gauge.
+    OverBeforeEmpty,
+    ValuationOfZeroShown,
+    LimitOfZeroIsOver,
+    LimitBelowByOneIsUsed,
+    ShortfallIsNegative,
+    DiscountAdded,
+    DiscountForgotten,
+    LimitIsUsed,
+    QuotientTurned,
+    QuotientInPercent,
+    QuotientCut,
+    ProductByReciprocal,
+    DivisionOfEach,
+    OneLessPartOfLimit,
+    // The feed, written and read.
+    FeedNotWritten,
+    FeedInAnotherOrder,
+    FeedCountedLast,
+    RefusalZeroesFeed,
+    LongFeedPasses,
+    ShortFeedPasses,
+    LongFeedRead,
+    ShortFeedReadAsZeros,
+    NanIs7,
+    NanRead,
+    SignallingNanRead,
+    NegativeNanRead,
+    NanOfLimitRead,
+    InfinityNotRead,
+    NegativeZeroReadAsZero,
+    SubnormalReadAsZero,;
 }
 
 thread_local! {

@@ -1,18 +1,22 @@
 //! Document 01, "Calls and turning away": the codes, and the looks every call takes first, in the table's order; with
-//! request #101 of document 02.
+//! requests #101 and #102 of document 02.
 
+mod app;
 mod moving;
 mod open;
 mod order;
 mod report;
 mod roll;
+mod unapp;
 
+pub use app::{App, app};
 pub use moving::{Move, RUBLES, move_collateral};
 pub use open::open;
 pub use order::{BUY, Order, SELL, order};
 pub(crate) use order::{admit, leave_in_bounds};
 pub use report::report;
 pub use roll::roll;
+pub use unapp::unapp;
 
 use std::mem;
 

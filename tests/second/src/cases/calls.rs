@@ -1,8 +1,9 @@
-//! Stored call scripts: document 01's three rows of the cover test, and the form of a script with checksums worked out by
-//! hand.
+//! Stored call scripts: how one is written, document 01's three rows of the cover test, and the form of a script with
+//! checksums worked out by hand.
 
 use super::{Case, row_a};
 use crate::row::RAISED_FALL;
+use crate::script::{Buffer, Buffers, Command};
 
 pub fn cases() -> Vec<Case> {
     vec![cover(), form()]
@@ -60,4 +61,40 @@ fn form() -> Case {
         }
     }
     Case { name: "form".to_string(), input: input.into(), output: output.into() }
+}
+
+/// A call script being written, with its answers. What stands in the buffers is kept by hand, for the checksums.
+#[derive(Default)]
+pub struct Calls {
+    input: String,
+    output: String,
+    pub standing: Buffers,
+}
+
+impl Calls {
+    pub fn case(self, name: &str) -> Case {
+        Case { name: name.to_string(), input: self.input.into(), output: self.output.into() }
+    }
+
+    pub fn set(&mut self, buffer: Buffer, number: usize, value: i64) {
+        self.input += &format!("{}\n", Command::Set { buffer, number, value });
+        self.standing.numbers_mut(buffer)[number] = value;
+    }
+
+    pub fn lengths(&mut self, lengths: [usize; 5]) {
+        self.input += &format!("{}\n", Command::Lengths(lengths));
+        for (buffer, length) in Buffer::ALL.into_iter().zip(lengths) {
+            self.standing.resize(buffer, length);
+        }
+    }
+
+    /// Answered with the checksum at the end.
+    pub fn call(&mut self, call: Command, answer: &str) {
+        self.call_without_sum(call, &format!("{answer} {}", self.standing.sum()));
+    }
+
+    pub fn call_without_sum(&mut self, call: Command, answer: &str) {
+        self.input += &format!("{call}\n");
+        self.output += &format!("{answer}\n");
+    }
 }

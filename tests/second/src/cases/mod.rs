@@ -1,18 +1,23 @@
 //! The stored cases: session inputs and call scripts with their answers. Figures of S1 to S12, the two orders, the
-//! session and the cover test are document 01's own; the other answers are worked out by hand from its rules and from
-//! #101. Nothing here asks the second program's rules, but for the answers of one long session.
+//! session and the cover test are document 01's own; the other answers are worked out by hand from its rules, from #101
+//! and from #102. Nothing here asks the second program's rules, but for the answers of one long session.
 
+mod app;
 mod calls;
 mod day;
+mod floats;
 mod lines;
 mod long;
 mod malformed;
 mod sums;
 mod trouble;
 
+pub use app::QUOTIENTS;
+pub use floats::{Quotient, bits_of_whole};
 pub use sums::{GROUP_ONE, Held, SUMS, Sum, row_a};
 
 use crate::frame::Frame;
+use calls::Calls;
 
 pub struct Case {
     pub name: String,
@@ -31,7 +36,7 @@ pub fn sessions() -> Vec<Case> {
 /// The call scripts of tests/cases: NAME.calls and NAME.answers.
 pub fn scripts() -> Vec<Case> {
     let mut cases = calls::cases();
-    cases.push(trouble::script());
+    cases.extend([trouble::script(), app::script()]);
     cases
 }
 

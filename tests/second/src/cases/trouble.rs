@@ -2,12 +2,12 @@
 //! A session, whose accounts get there by new rows, and a call script, which is lent its account as it is.
 
 use super::sums::{BOUGHT, Rows, buy_ten};
-use super::{Case, GROUP_ONE, SUMS, Script, Sum, row_a};
+use super::{Calls, Case, GROUP_ONE, SUMS, Script, Sum, row_a};
 use crate::block::{self, CLAIMS, COLLATERAL, NETS, OBLIGATIONS, ORDINARY, RUBLES, holding_start};
 use crate::calls::{BUY, Move, Order, SELL};
 use crate::frame::Frame;
 use crate::row::{COVERED_SALES, FALL, PARTIAL, Row};
-use crate::script::{Buffer, Buffers, Command};
+use crate::script::{Buffer, Command};
 use crate::units::{BLOCK, MOST_RUBLES};
 
 /// S4: an obligation of 10 at date 2, and a limit of −132,000.
@@ -142,36 +142,14 @@ pub fn script() -> Case {
     calls.far_below();
     calls.deposit_that_loses_an_order();
     calls.withdrawals();
-    calls.case()
-}
-
-/// A call script being written, with its answers. What stands in the buffers is kept by hand, for the checksums.
-#[derive(Default)]
-struct Calls {
-    input: String,
-    output: String,
-    standing: Buffers,
+    calls.case("trouble")
 }
 
 impl Calls {
-    fn case(self) -> Case {
-        Case { name: "trouble".to_string(), input: self.input.into(), output: self.output.into() }
-    }
-
-    fn set(&mut self, buffer: Buffer, number: usize, value: i64) {
-        self.input += &format!("{}\n", Command::Set { buffer, number, value });
-        self.standing.numbers_mut(buffer)[number] = value;
-    }
-
     fn lend(&mut self, numbers: &[(usize, i64)]) {
         for &(number, value) in numbers {
             self.set(Buffer::Book, number, value);
         }
-    }
-
-    fn call(&mut self, call: Command, answer: &str) {
-        self.input += &format!("{call}\n");
-        self.output += &format!("{answer} {}\n", self.standing.sum());
     }
 
     fn refused(&mut self, call: Command) {

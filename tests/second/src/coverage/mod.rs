@@ -1,6 +1,7 @@
 //! What generated sessions and scripts reach, counted by replaying them: codes, rules of the tables, figures, edges, forms
 //! of lines, and what only scripts show.
 
+mod app;
 mod calls;
 mod figures;
 mod lines;
@@ -11,6 +12,7 @@ pub mod scripts;
 mod tables;
 mod tally;
 mod trouble;
+mod unapp;
 
 pub use tally::Tally;
 

@@ -12,7 +12,7 @@ const ACCOUNT: &[i64] = &[-1, 0, 15, 16, 256];
 
 /// Each argument, and the values to be reached beside the two ends.
 #[rustfmt::skip]
-const VALUES: [(&str, &[i64]); 15] = [
+const VALUES: [(&str, &[i64]); 16] = [
     ("open account", ACCOUNT),
     ("open kind", &[-1, 0, 1, 2, 3, 4, 256, 257]),
     ("move account", ACCOUNT),
@@ -27,6 +27,7 @@ const VALUES: [(&str, &[i64]); 15] = [
     ("order money", &[-1, 0, MOST_RUBLES, MOST_RUBLES + 1]),
     ("roll account", ACCOUNT),
     ("report account", ACCOUNT),
+    ("app account", ACCOUNT),
     ("cover asset", &[-1, 0, 15, 16, 255, 256]),
 ];
 
@@ -62,6 +63,7 @@ fn arguments(command: &Command) -> Vec<(&'static str, i64)> {
         ],
         Command::Roll { account } => vec![("roll account", account)],
         Command::Report { account } => vec![("report account", account)],
-        Command::Check | Command::Set { .. } | Command::Lengths(_) | Command::Reset => Vec::new(),
+        Command::App { account } => vec![("app account", account)],
+        Command::Check | Command::Unapp | Command::Set { .. } | Command::Lengths(_) | Command::Reset => Vec::new(),
     }
 }

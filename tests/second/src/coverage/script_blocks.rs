@@ -17,7 +17,7 @@ const BESIDE: &str = "calls done beside a damaged block";
 
 /// How a number stands outside its bounds.
 const HOW: [&str; 4] = ["one below", "one above", "lowest of 64 bits", "highest of 64 bits"];
-const ANSWERS: [&str; 6] = ["open: 5", "open: 6", "move: 6", "order: 6", "roll: 6", "report: 6"];
+const ANSWERS: [&str; 7] = ["open: 5", "open: 6", "move: 6", "order: 6", "roll: 6", "report: 6", "app: 6"];
 
 pub fn expect(tally: &mut Tally) {
     tally.expect(DAMAGED, HOW.iter().flat_map(|how| (0..BLOCK).map(move |number| format!("{how} {number}"))));

@@ -1,8 +1,8 @@
 //! Coverage of call scripts: the codes of every call, every place of the tables, lengths, pairs of grounds, and what
 //! scripts reach of all that sessions reach.
 
-use super::{State, Step, account_of, calls, count_call, figures, script_arguments, script_blocks, script_cover};
-use super::{tables, tally::Tally, trouble};
+use super::{State, Step, account_of, app, calls, count_call, figures, script_arguments, script_blocks, script_cover};
+use super::{tables, tally::Tally, trouble, unapp};
 use crate::calls::{DONE, Refusal};
 use crate::frame::Frame;
 use crate::script::{Answer, Buffer, Buffers, Command, obey};
@@ -11,7 +11,7 @@ use crate::tables::{PLACES, clearing_place, group_place, own_place};
 use crate::units::ACCOUNTS;
 
 /// Each call and the codes it can answer; of `cover`, no and yes.
-const CODES: [(&str, &[u8]); 7] = [
+const CODES: [(&str, &[u8]); 9] = [
     ("check", &[0, 1, 2]),
     ("cover", &[0, 1]),
     ("open", &[0, 1, 3, 5, 6, 7]),
@@ -19,6 +19,8 @@ const CODES: [(&str, &[u8]); 7] = [
     ("order", &[0, 1, 2, 3, 4, 6, 7, 8, 9, 10]),
     ("roll", &[0, 1, 3, 4, 6, 9]),
     ("report", &[0, 1, 2, 3, 4, 6]),
+    ("app", &[0, 1, 2, 3, 4, 6]),
+    ("unapp", &[0, 1, 9]),
 ];
 const CODE: &str = "codes of each call";
 const DONE_BY: &str = "calls done by account";
@@ -30,21 +32,27 @@ const PAIR: &str = "two grounds, each alone and both at once";
 
 /// What a length is to the right one.
 const SIDES: [&str; 4] = ["none", "one short", "one long", "another"];
-const BY_ACCOUNT: [&str; 5] = ["open", "move", "order", "roll", "report"];
+const BY_ACCOUNT: [&str; 6] = ["open", "move", "order", "roll", "report", "app"];
 /// Calls and the buffers that they are not lent.
-const OTHERS: [(&str, &[Buffer]); 3] = [
-    ("check", &[Buffer::Book]),
-    ("open", &[Buffer::Clearing, Buffer::Own, Buffer::Groups]),
-    ("roll", &[Buffer::Clearing, Buffer::Own, Buffer::Groups]),
+const OTHERS: [(&str, &[Buffer]); 7] = [
+    ("check", &[Buffer::Book, Buffer::Feed]),
+    ("open", &[Buffer::Clearing, Buffer::Own, Buffer::Groups, Buffer::Feed]),
+    ("roll", &[Buffer::Clearing, Buffer::Own, Buffer::Groups, Buffer::Feed]),
+    ("move", &[Buffer::Feed]),
+    ("order", &[Buffer::Feed]),
+    ("report", &[Buffer::Feed]),
+    ("unapp", &Buffer::OF_REPORT),
 ];
 /// Calls and the buffers whose wrong lengths they answer with code 1.
-const LENT: [(&str, &[Buffer]); 6] = [
+const LENT: [(&str, &[Buffer]); 8] = [
     ("check", &[Buffer::Clearing, Buffer::Own, Buffer::Groups]),
     ("open", &[Buffer::Book]),
-    ("move", &Buffer::ALL),
-    ("order", &Buffer::ALL),
+    ("move", &Buffer::OF_REPORT),
+    ("order", &Buffer::OF_REPORT),
     ("roll", &[Buffer::Book]),
-    ("report", &Buffer::ALL),
+    ("report", &Buffer::OF_REPORT),
+    ("app", &Buffer::ALL),
+    ("unapp", &[Buffer::Feed]),
 ];
 
 /// All that scripts are to reach.
@@ -68,6 +76,8 @@ pub fn expected() -> Tally {
     script_cover::expect(&mut tally);
     calls::expect(&mut tally);
     trouble::expect_far(&mut tally);
+    app::expect(&mut tally);
+    unapp::expect(&mut tally);
     tables::expect(&mut tally);
     figures::expect(&mut tally);
     tally
@@ -85,7 +95,7 @@ pub fn count(seed: u64, tally: &mut Tally) -> usize {
     }
     let text = String::from_utf8(script.text).expect("words and numbers");
     let mut buffers = Buffers::default();
-    let mut touched = Vec::new();
+    let (mut touched, mut written) = (Vec::new(), None);
     let mut called = 0;
     for line in text.lines() {
         let command = Command::read(line).expect("a command");
@@ -95,6 +105,12 @@ pub fn count(seed: u64, tally: &mut Tally) -> usize {
         if let (Some(before), Some(answer)) = (before, answer) {
             called += 1;
             count_answer(&command, &answer, [&before, &buffers], &mut touched, tally);
+            unapp::count(&command, &answer, &before, written, tally);
+            if let Answer::App { code: DONE, app, .. } = answer {
+                written = Some(app.record.bits());
+            }
+        } else if let Command::Reset = command {
+            written = None;
         }
     }
     called
@@ -121,6 +137,7 @@ fn count_answer(
     let (call, code) = (command.call().expect("a call"), answer.code());
     tally.count(CODE, format!("{call}: {code}"));
     script_arguments::count(command, tally);
+    app::count(command, answer, [before, after], tally);
     if wrong_lengths(before).is_empty() {
         count_at_right_lengths(command, code, [before, after], touched, tally);
     } else {

@@ -1,6 +1,8 @@
-//! What a script lends: the book, both tables and the groups, of any lengths, and the checksum over all of them.
+//! What a script lends: the book, both tables, the groups and the app's feed, of any lengths, and the checksum over all
+//! of them.
 
 use crate::block::Block;
+use crate::record::RECORD;
 use crate::tables::{Lent, Tables};
 use crate::units::*;
 
@@ -11,10 +13,14 @@ pub enum Buffer {
     Clearing,
     Own,
     Groups,
+    /// The five numbers of #102.
+    Feed,
 }
 
 impl Buffer {
-    pub const ALL: [Buffer; 4] = [Buffer::Book, Buffer::Clearing, Buffer::Own, Buffer::Groups];
+    pub const ALL: [Buffer; 5] = [Buffer::Book, Buffer::Clearing, Buffer::Own, Buffer::Groups, Buffer::Feed];
+    /// Those that a report is lent.
+    pub const OF_REPORT: [Buffer; 4] = [Buffer::Book, Buffer::Clearing, Buffer::Own, Buffer::Groups];
 
     /// The length that a call takes.
     pub fn right_length(self) -> usize {
@@ -22,6 +28,7 @@ impl Buffer {
             Buffer::Book => BOOK,
             Buffer::Clearing | Buffer::Own => TABLE,
             Buffer::Groups => GROUPS,
+            Buffer::Feed => RECORD,
         }
     }
 
@@ -32,16 +39,18 @@ impl Buffer {
             Buffer::Clearing => "C",
             Buffer::Own => "O",
             Buffer::Groups => "G",
+            Buffer::Feed => "F",
         }
     }
 
-    /// What its sum counts in the checksum; 3, 13 and 17 are of buffers that no call is lent yet.
+    /// What its sum counts in the checksum; 3 and 13 are of buffers that no call is lent yet.
     fn factor(self) -> u64 {
         match self {
             Buffer::Book => 1,
             Buffer::Clearing => 5,
             Buffer::Own => 7,
             Buffer::Groups => 11,
+            Buffer::Feed => 17,
         }
     }
 
@@ -57,7 +66,7 @@ impl Buffer {
 
 #[derive(Clone, PartialEq)]
 pub struct Buffers {
-    numbers: [Vec<i64>; 4],
+    numbers: [Vec<i64>; 5],
 }
 
 impl Default for Buffers {
@@ -80,14 +89,14 @@ impl Buffers {
         self.numbers_mut(buffer).resize(length, 0);
     }
 
-    pub fn lengths(&self) -> [usize; 4] {
+    pub fn lengths(&self) -> [usize; 5] {
         Buffer::ALL.map(|buffer| self.numbers(buffer).len())
     }
 
-    /// The book and what is lent beside it.
-    pub fn split(&mut self) -> (&mut [i64], Lent<'_>) {
-        let [book, clearing, own, groups] = &mut self.numbers;
-        (book, Lent { clearing, own, groups })
+    /// The book, the feed, and what is lent beside them.
+    pub fn split(&mut self) -> (&mut [i64], &mut [i64], Lent<'_>) {
+        let [book, clearing, own, groups, feed] = &mut self.numbers;
+        (book, feed, Lent { clearing, own, groups })
     }
 
     pub fn book(&self) -> &[i64] {
@@ -95,8 +104,12 @@ impl Buffers {
     }
 
     pub fn lent(&self) -> Lent<'_> {
-        let [_, clearing, own, groups] = &self.numbers;
+        let [_, clearing, own, groups, _] = &self.numbers;
         Lent { clearing, own, groups }
+    }
+
+    pub fn feed(&self) -> &[i64] {
+        self.numbers(Buffer::Feed)
     }
 
     /// None where a length is wrong.

@@ -5,15 +5,15 @@ use std::fmt;
 use super::buffers::Buffer;
 use crate::calls::{Move, Order};
 
-/// Numbers of the command `L`: book, list of resting orders, clearing, own, groups, and the two of later calls.
+/// Numbers of the command `L`: book, list of resting orders, clearing, own, groups, the file reader's table, feed.
 const LENGTHS: usize = 7;
-/// Those of the four buffers that today's calls are lent; the others are passed over.
-const LENT: [usize; 4] = [0, 2, 3, 4];
+/// Those of the five buffers that today's calls are lent; the others are passed over.
+const LENT: [usize; 5] = [0, 2, 3, 4, 6];
 
 #[derive(Clone, Copy)]
 pub enum Command {
     Set { buffer: Buffer, number: usize, value: i64 },
-    Lengths([usize; 4]),
+    Lengths([usize; 5]),
     Reset,
     Check,
     Cover { asset: i64 },
@@ -22,6 +22,8 @@ pub enum Command {
     Order(Order),
     Roll { account: i64 },
     Report { account: i64 },
+    App { account: i64 },
+    Unapp,
 }
 
 impl Command {
@@ -46,6 +48,8 @@ impl Command {
             }
             ("roll", &[account]) => Some(Command::Roll { account }),
             ("report", &[account]) => Some(Command::Report { account }),
+            ("app", &[account]) => Some(Command::App { account }),
+            ("unapp", []) => Some(Command::Unapp),
             _ => None,
         }
     }
@@ -61,6 +65,8 @@ impl Command {
             Command::Order(_) => Some("order"),
             Command::Roll { .. } => Some("roll"),
             Command::Report { .. } => Some("report"),
+            Command::App { .. } => Some("app"),
+            Command::Unapp => Some("unapp"),
         }
     }
 
@@ -71,13 +77,16 @@ impl Command {
             Command::Check => &[Buffer::Clearing, Buffer::Own, Buffer::Groups],
             Command::Cover { .. } => &[Buffer::Clearing, Buffer::Own],
             Command::Open { .. } | Command::Roll { .. } => &[Buffer::Book],
-            Command::Move(_) | Command::Order(_) | Command::Report { .. } => &Buffer::ALL,
+            Command::Move(_) | Command::Order(_) | Command::Report { .. } => &Buffer::OF_REPORT,
+            Command::App { .. } => &Buffer::ALL,
+            Command::Unapp => &[Buffer::Feed],
         }
     }
 
     pub fn account(&self) -> Option<i64> {
         match *self {
-            Command::Open { account, .. } | Command::Roll { account } | Command::Report { account } => Some(account),
+            Command::Open { account, .. } | Command::Roll { account } => Some(account),
+            Command::Report { account } | Command::App { account } => Some(account),
             Command::Move(Move { account, .. }) | Command::Order(Order { account, .. }) => Some(account),
             _ => None,
         }
@@ -95,16 +104,20 @@ impl fmt::Display for Command {
         let call = self.call().unwrap_or_default();
         match self {
             Command::Set { buffer, number, value } => write!(out, "{} {number} {value}", buffer.word()),
-            Command::Lengths([book, clearing, own, groups]) => write!(out, "L {book} 0 {clearing} {own} {groups} 0 0"),
+            Command::Lengths([book, clearing, own, groups, feed]) => {
+                write!(out, "L {book} 0 {clearing} {own} {groups} 0 {feed}")
+            }
             Command::Reset => write!(out, "Z"),
-            Command::Check => write!(out, "{call}"),
+            Command::Check | Command::Unapp => write!(out, "{call}"),
             Command::Cover { asset } => write!(out, "{call} {asset}"),
             Command::Open { account, kind } => write!(out, "{call} {account} {kind}"),
             Command::Move(Move { account, asset, amount }) => write!(out, "{call} {account} {asset} {amount}"),
             Command::Order(Order { account, asset, date, side, quantity, money }) => {
                 write!(out, "{call} {account} {asset} {date} {side} {quantity} {money}")
             }
-            Command::Roll { account } | Command::Report { account } => write!(out, "{call} {account}"),
+            Command::Roll { account } | Command::Report { account } | Command::App { account } => {
+                write!(out, "{call} {account}")
+            }
         }
     }
 }

@@ -1,6 +1,6 @@
 //! Call scripts, for tests only: library calls one a line, of hand-made books and tables of any lengths. They show what
-//! a session cannot: the place of the table check, code 1, damaged blocks, the cover test, and every buffer after every
-//! call by its checksum.
+//! a session cannot: the place of the table check, code 1, damaged blocks, the cover test, the figures for the phone app, and
+//! every buffer after every call by its checksum.
 
 mod buffers;
 mod command;
@@ -11,9 +11,10 @@ pub use command::Command;
 use std::fmt;
 use std::io::{self, BufRead, Write};
 
-use crate::calls::{self, Refusal, code};
+use crate::calls::{self, App, Refusal, code};
 use crate::cover::row_passes;
 use crate::limit::Figures;
+use crate::record::Record;
 
 /// What a call answers; shown, it is the answer's line.
 #[derive(Clone, Copy)]
@@ -22,6 +23,8 @@ pub enum Answer {
     Cover(bool),
     Changed { code: u8, sum: u64 },
     Report { code: u8, figures: Figures, sum: u64 },
+    App { code: u8, app: App, sum: u64 },
+    Unapp { code: u8, record: Record },
 }
 
 impl Answer {
@@ -30,6 +33,7 @@ impl Answer {
         match *self {
             Answer::Cover(passes) => u8::from(passes),
             Answer::Check { code, .. } | Answer::Changed { code, .. } | Answer::Report { code, .. } => code,
+            Answer::App { code, .. } | Answer::Unapp { code, .. } => code,
         }
     }
 }
@@ -45,8 +49,16 @@ impl fmt::Display for Answer {
                 let limit = figures.limit();
                 write!(out, "{code} {valuation} {market_risk} {interest_risk} {discount} {limit} {sum}")
             }
+            Answer::App { code, app: App { record, gauge }, sum } => {
+                write!(out, "{code} {} {} {} {sum}", bits(&record), gauge.number(), gauge.bits())
+            }
+            Answer::Unapp { code, record } => write!(out, "{code} {}", bits(&record)),
         }
     }
+}
+
+fn bits(record: &Record) -> String {
+    record.bits().map(|bits| bits.to_string()).join(" ")
 }
 
 /// Obeys a command, and answers a call. Only a number beyond the lent length is wrong of a command that was read.
@@ -68,13 +80,22 @@ pub fn obey(buffers: &mut Buffers, command: &Command) -> Result<Option<Answer>, 
 }
 
 fn answer(buffers: &mut Buffers, command: &Command) -> Answer {
-    let (book, lent) = buffers.split();
+    let (book, feed, lent) = buffers.split();
     let done: Result<(), Refusal> = match *command {
         Command::Cover { asset } => return Answer::Cover(row_passes(&lent, asset)),
         Command::Report { account } => {
             let report = calls::report(book, &lent, account);
             let sum = buffers.sum();
             return Answer::Report { code: code(&report), figures: report.unwrap_or_default(), sum };
+        }
+        Command::App { account } => {
+            let app = calls::app(book, &lent, account, feed);
+            let sum = buffers.sum();
+            return Answer::App { code: code(&app), app: app.unwrap_or_default(), sum };
+        }
+        Command::Unapp => {
+            let record = calls::unapp(feed);
+            return Answer::Unapp { code: code(&record), record: record.unwrap_or_default() };
         }
         Command::Open { account, kind } => calls::open(book, account, kind),
         Command::Move(ref wanted) => calls::move_collateral(book, &lent, wanted),

@@ -55,7 +55,12 @@ fn of_others(account: i64) -> Vec<Command> {
     let accounts = FAR.into_iter().chain([0, 15, 16, account, account + 256]);
     accounts
         .flat_map(|account| {
-            [Command::Roll { account }, Command::Report { account }, Command::Open { account, kind: 1 }]
+            [
+                Command::Roll { account },
+                Command::Report { account },
+                Command::App { account },
+                Command::Open { account, kind: 1 },
+            ]
         })
         .collect()
 }

@@ -22,7 +22,7 @@ pub fn bounds_of(number: usize) -> Bounds {
 }
 
 /// One of each call for an account.
-pub fn calls_of(account: usize) -> [Command; 5] {
+pub fn calls_of(account: usize) -> [Command; 6] {
     let account = account as i64;
     [
         Command::Open { account, kind: ORDINARY },
@@ -30,6 +30,7 @@ pub fn calls_of(account: usize) -> [Command; 5] {
         Command::Order(Order { account, asset: 0, date: 0, side: BUY, quantity: 1, money: 0 }),
         Command::Roll { account },
         Command::Report { account },
+        Command::App { account },
     ]
 }
 

@@ -1,7 +1,8 @@
 //! Hand-made books under hand-made tables: blocks that no run of calls makes, reported, and then brought to the edges.
 
-use super::edges;
 use super::maker::Maker;
+use super::unapp::draw_feed;
+use super::{app, edges};
 use crate::block::{self, Block, CLAIMS, COLLATERAL, LISTED_POOL, NETS, OBLIGATIONS, ORDINARY, RUBLES};
 use crate::generate::{Random, draw_row};
 use crate::row::{COMMODITY, GROUP, INTEREST_LIMIT, KIND, MARKET_LIMIT, SECURITY};
@@ -22,10 +23,11 @@ pub fn scene(maker: &mut Maker) {
     for &account in &accounts {
         maker.call(Command::Report { account: account as i64 });
         edges::of(maker, &wanted, account);
+        app::gauges(maker, &wanted, account);
     }
 }
 
-/// Sound tables: so many rows in a hundred listed, and so many of those with an own row.
+/// Sound tables, so many rows in a hundred listed and so many of those with an own row; and a feed that holds something.
 pub fn draw_tables(random: &mut Random, listed: i64, owned: i64) -> Buffers {
     let mut tables = Buffers::default();
     for asset in 0..ASSETS {
@@ -44,6 +46,7 @@ pub fn draw_tables(random: &mut Random, listed: i64, owned: i64) -> Buffers {
         let some = random.between(0, MOST_DISCOUNT);
         tables.numbers_mut(Buffer::Groups)[group] = random.pick(&[some, some, some, MOST_DISCOUNT]);
     }
+    tables.numbers_mut(Buffer::Feed).copy_from_slice(&draw_feed(random));
     tables
 }
 

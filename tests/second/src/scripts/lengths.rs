@@ -13,12 +13,13 @@ pub fn scene(maker: &mut Maker) {
     *right.block_mut(account) = draw_block(&mut maker.random, &right);
     for buffer in Buffer::ALL {
         let length = buffer.right_length();
-        let row = maker.random.pick(&[length / 2, length - length / 16, length + length / 8, 2 * length]);
+        let row =
+            maker.random.pick(&[length / 2, length - length.div_ceil(16), length + length.div_ceil(8), 2 * length]);
         for wrong in [0, length - 1, length + 1, row] {
             let mut wanted = right.clone();
             wanted.resize(buffer, wrong);
             maker.lend(&wanted);
-            for call in calls_of(account).into_iter().chain([Command::Check]) {
+            for call in calls_of(account).into_iter().chain([Command::Check, Command::Unapp]) {
                 maker.call(call);
             }
         }

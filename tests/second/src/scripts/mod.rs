@@ -1,6 +1,8 @@
 //! Call scripts that reach what sessions cannot: hand-made books and tables, every place of the tables, every number of
-//! a block, wrong lengths, arguments of any size, and two grounds of refusal at once. The same bytes for the same seed.
+//! a block, wrong lengths, arguments of any size, two grounds of refusal at once,
+//! and the figures for the phone app. The same bytes for the same seed.
 
+mod app;
 mod arguments;
 mod blocks;
 mod books;
@@ -12,9 +14,11 @@ mod pairs;
 mod places;
 mod sessions;
 mod trouble;
+mod unapp;
 
 pub use blocks::bounds_of;
 pub use pairs::{CALLS as PAIRS, title as pair};
+pub use unapp::{PATTERNS, signs};
 
 use maker::Maker;
 
@@ -40,6 +44,9 @@ pub fn script(seed: u64) -> Script {
         arguments::scene,
         books::scene,
         sessions::scene,
+        app::refusals,
+        app::greatest,
+        unapp::scene,
     ] {
         maker.reset();
         scene(&mut maker);

@@ -2,10 +2,12 @@
 //! both are known to be there.
 
 use super::maker::Maker;
+use super::unapp::{draw_feed, draw_nan};
 use crate::block::{self, LISTED_POOL, ORDINARY, holding_start};
 use crate::calls::{BUY, Move, Order, SELL};
 use crate::cases::{GROUP_ONE, row_a};
 use crate::generate::Random;
+use crate::record::RECORD;
 use crate::script::{Buffer, Buffers, Command};
 use crate::units::*;
 
@@ -13,7 +15,7 @@ use crate::units::*;
 /// that is not there has no block that could break, be closed, leave its bounds or have a limit; an empty block leaves no
 /// bounds by a good order; and a withdrawal of a wrong asset or amount, or from an empty block, leaves no limit to judge.
 #[rustfmt::skip]
-pub const CALLS: [(&str, &[(u8, u8)]); 6] = [
+pub const CALLS: [(&str, &[(u8, u8)]); 8] = [
     ("check", &[(1, 2)]),
     ("open", &[(1, 3), (1, 6), (1, 5), (1, 7), (3, 7), (6, 7), (5, 7)]),
     ("move", &[(1, 2), (1, 3), (1, 6), (1, 4), (1, 7), (1, 8), (1, 9), (1, 10), (2, 3), (2, 6), (2, 4), (2, 7), (2, 8),
@@ -24,6 +26,8 @@ pub const CALLS: [(&str, &[(u8, u8)]); 6] = [
         (7, 9), (7, 10), (8, 9), (8, 10), (9, 10)]),
     ("roll", &[(1, 3), (1, 6), (1, 4), (1, 9), (6, 4), (6, 9)]),
     ("report", &[(1, 2), (1, 3), (1, 6), (1, 4), (2, 3), (2, 6), (2, 4), (6, 4)]),
+    ("app", &[(1, 2), (1, 3), (1, 6), (1, 4), (2, 3), (2, 6), (2, 4), (6, 4)]),
+    ("unapp", &[(1, 9)]),
 ];
 
 /// So many seeds share out the pairs.
@@ -64,6 +68,7 @@ pub fn world(maker: &mut Maker, account: usize) -> (Buffers, Order, Move) {
         buffers.numbers_mut(Buffer::Own)[..ROW].copy_from_slice(&row_a());
     }
     buffers.numbers_mut(Buffer::Groups)[0] = GROUP_ONE;
+    buffers.numbers_mut(Buffer::Feed).copy_from_slice(&draw_feed(&mut maker.random));
     let block = buffers.block_mut(account);
     block[block::KIND] = ORDINARY;
     block[block::RUBLES] = 1_000_000_000;
@@ -76,15 +81,15 @@ pub fn world(maker: &mut Maker, account: usize) -> (Buffers, Order, Move) {
 }
 
 #[derive(Clone)]
-struct Situation {
-    buffers: Buffers,
+pub struct Situation {
+    pub buffers: Buffers,
     account: usize,
-    command: Command,
+    pub command: Command,
 }
 
 impl Situation {
     /// One in which the call is done.
-    fn new(maker: &mut Maker, call: &str, buys: bool) -> Situation {
+    pub fn new(maker: &mut Maker, call: &str, buys: bool) -> Situation {
         let account = maker.random.below(ACCOUNTS);
         let (mut buffers, mut order, moved) = world(maker, account);
         if !buys && maker.random.percent(50) {
@@ -97,7 +102,9 @@ impl Situation {
             "move" => Command::Move(moved),
             "order" => Command::Order(order),
             "roll" => Command::Roll { account: number },
-            _ => Command::Report { account: number },
+            "report" => Command::Report { account: number },
+            "app" => Command::App { account: number },
+            _ => Command::Unapp,
         };
         if let Command::Open { .. } = command {
             buffers.block_mut(account).fill(0);
@@ -106,7 +113,7 @@ impl Situation {
     }
 
     /// Brings in the ground of a code; `grounds` are all that are to be there.
-    fn spoil(&mut self, random: &mut Random, code: u8, grounds: &[u8]) {
+    pub fn spoil(&mut self, random: &mut Random, code: u8, grounds: &[u8]) {
         let block = self.buffers.block_mut(self.account);
         match code {
             1 => self.spoil_length(random),
@@ -123,7 +130,12 @@ impl Situation {
     }
 
     fn spoil_length(&mut self, random: &mut Random) {
-        let buffer = random.pick(self.command.lent());
+        self.spoil_length_of(random, self.command.lent());
+    }
+
+    /// Of one of these buffers.
+    pub fn spoil_length_of(&mut self, random: &mut Random, buffers: &[Buffer]) {
+        let buffer = random.pick(buffers);
         let length = buffer.right_length();
         // What stands there is not cut: the other ground may be in it.
         self.buffers.resize(buffer, random.pick(&[length + 1, length + BLOCK, 2 * length]));
@@ -141,7 +153,8 @@ impl Situation {
     fn spoil_account(&mut self, random: &mut Random) {
         let wrong = random.pick(&[-1, ACCOUNTS as i64, 255, i64::MIN, i64::MAX]);
         match &mut self.command {
-            Command::Open { account, .. } | Command::Roll { account } | Command::Report { account } => *account = wrong,
+            Command::Open { account, .. } | Command::Roll { account } => *account = wrong,
+            Command::Report { account } | Command::App { account } => *account = wrong,
             Command::Move(wanted) => wanted.account = wrong,
             Command::Order(wanted) => wanted.account = wrong,
             _ => unreachable!("a call without an account"),
@@ -196,6 +209,11 @@ impl Situation {
     }
 
     fn spoil_bounds(&mut self, random: &mut Random) {
+        if let Command::Unapp = self.command {
+            let place = random.below(RECORD);
+            self.buffers.numbers_mut(Buffer::Feed)[place] = draw_nan(random);
+            return;
+        }
         let block = self.buffers.block_mut(self.account);
         match self.command {
             Command::Move(_) => block[holding_start(0)] = 0,

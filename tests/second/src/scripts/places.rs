@@ -76,5 +76,6 @@ fn some_call(maker: &mut Maker) -> Command {
     let asset = maker.random.between(0, ASSETS as i64);
     let order = Order { account, asset, date: 0, side: BUY, quantity: 1, money: 0 };
     let moved = Move { account, asset: RUBLES, amount: 1 };
-    maker.random.pick(&[Command::Report { account }, Command::Move(moved), Command::Order(order)])
+    let app = Command::App { account };
+    maker.random.pick(&[Command::Report { account }, app, Command::Move(moved), Command::Order(order)])
 }

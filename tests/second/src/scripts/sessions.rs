@@ -23,7 +23,11 @@ pub fn scene(maker: &mut Maker) {
             Frame::Move(wanted) => maker.call(Command::Move(wanted)),
             Frame::Order(wanted) => maker.call(Command::Order(wanted)),
             Frame::Roll { account } => maker.call(Command::Roll { account }),
-            Frame::Report { account } => maker.call(Command::Report { account }),
+            Frame::Report { account } => {
+                maker.call(Command::Report { account });
+                maker.call(Command::App { account });
+                maker.call(Command::Unapp)
+            }
         };
     }
 }

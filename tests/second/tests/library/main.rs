@@ -1,6 +1,7 @@
-//! The library's tests: document 01's sums and session, the table check, the calls, trading out of trouble, session
-//! lines and call scripts.
+//! The library's tests: document 01's sums and session, the table check, the calls, trading out of trouble, the figures
+//! for the phone app, session lines and call scripts.
 
+mod app;
 mod blocks;
 mod calls;
 mod cases;
@@ -9,4 +10,5 @@ mod session;
 mod sums;
 mod tables;
 mod trouble;
+mod unapp;
 mod world;

@@ -1,8 +1,8 @@
 //! Document 01, "Sums to be met", asked of the library: S1 to S12, the two orders, the cover test.
 
-use crate::world::{Call, World, claim, collateral, obligation};
+use crate::world::{Call, World, claim};
 use second::calls::{BUY, Order};
-use second::cases::{Held, SUMS, row_a};
+use second::cases::{SUMS, row_a};
 use second::cover::passes_cover_test;
 use second::row::{KIND, PRICE, RAISED_FALL, Row, date_start};
 use second::units::ROW;
@@ -10,19 +10,7 @@ use second::units::ROW;
 #[test]
 fn every_sum_is_met() {
     for sum in &SUMS {
-        let mut world = World::new();
-        for asset in 0..sum.assets {
-            world.list(asset, &sum.row());
-        }
-        let block = world.block(0);
-        block[0] = sum.account_kind;
-        for held in sum.holding {
-            match *held {
-                Held::Collateral { asset, units } => block[collateral(asset)] = units,
-                Held::Claim { asset, date, units } => block[claim(asset, date)] = units,
-                Held::Obligation { asset, date, units } => block[obligation(asset, date)] = units,
-            }
-        }
+        let world = World::of_sum(sum);
         let figures = world.report(0).expect(sum.name);
         let [valuation, market, interest, discount, limit] = sum.figures;
         assert_eq!(figures.valuation, valuation, "{}", sum.name);

@@ -2,7 +2,7 @@
 
 use second::block::{Block, holding_start};
 use second::calls::{self, Move, Order, Refusal};
-use second::cases::{GROUP_ONE, row_a};
+use second::cases::{GROUP_ONE, Held, Sum, row_a};
 use second::limit::Figures;
 use second::row::Row;
 use second::tables::Lent;
@@ -23,6 +23,24 @@ impl World {
             World { book: vec![0; BOOK], clearing: vec![0; TABLE], own: vec![0; TABLE], groups: vec![0; GROUPS] };
         world.groups[0] = GROUP_ONE;
         world.list(0, &row_a());
+        world
+    }
+
+    /// Account 0 holds what the sum says, under its rows.
+    pub fn of_sum(sum: &Sum) -> World {
+        let mut world = World::new();
+        for asset in 0..sum.assets {
+            world.list(asset, &sum.row());
+        }
+        let block = world.block(0);
+        block[0] = sum.account_kind;
+        for held in sum.holding {
+            match *held {
+                Held::Collateral { asset, units } => block[collateral(asset)] = units,
+                Held::Claim { asset, date, units } => block[claim(asset, date)] = units,
+                Held::Obligation { asset, date, units } => block[obligation(asset, date)] = units,
+            }
+        }
         world
     }
 
