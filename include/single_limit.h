@@ -1,15 +1,18 @@
 /* The Single Limit engine for C, C++ and whatever links with C.
  *
- * Every call takes any numbers and any lengths and answers a code. A refusal writes nothing, but for this: a refused report writes five zeros
- * (unless the length of `figures` itself is wrong), and a refused check of tables writes its place, which is 0 unless the code is 2.
+ * Every call takes any numbers and any lengths and answers a code. A refusal writes nothing, but for this: a refused report and a refused reading
+ * back write five zeros (unless the length of `figures` itself is wrong), a refused feed writes the empty gauge and a zero and leaves `bits` as
+ * they were, and a refused check of tables writes its place, which is 0 unless the code is 2.
  *
  * What the caller keeps, since no call can look for it:
  *   - a pointer is not null, is aligned for its type, and is good for as many numbers as its length says;
- *   - what is written (`book`, and `place` and `figures` too) overlaps nothing else that is lent to the same call;
- *   - one writer to a book at a time, and nobody reads it or writes the lent tables meanwhile.
+ *   - what is written (`book`, and `place`, `figures`, `bits`, `gauge` and `shown` too) overlaps nothing else that is lent to the same call;
+ *   - one writer to a book at a time, and nobody reads it or writes the lent tables meanwhile;
+ *   - the thread rounds floats to nearest, as every C program starts: the app's gauge divides, once, and nothing else here rounds a float.
  * The engine has no state of its own and allocates nothing: any number of books, tables and threads may use it at once.
  *
- * All numbers are int64_t: money is whole kopecks, quantities whole units, rates and shares hundredths of a percent (10,000 is the whole).
+ * Numbers are int64_t: money is whole kopecks, quantities whole units, rates and shares hundredths of a percent (10,000 is the whole). Only the
+ * app's feed has floats: binary64, which is double, and a float's bits, which are uint64_t.
  * tests/header holds names, numbers and parameters here to the engine's source. */
 #ifndef SINGLE_LIMIT_H
 #define SINGLE_LIMIT_H
@@ -21,8 +24,8 @@
 extern "C" {
 #endif
 
-/* The version of this face: the first number changes where a program must, the second where an answer does. */
-#define SINGLE_LIMIT_VERSION "1.1.0"
+/* The version of this face: the first number changes where a program must, the second where an answer does or a call is added. */
+#define SINGLE_LIMIT_VERSION "1.2.0"
 
 /* Accounts 0 to 15, assets 0 to 15, dates 0 to 7 (date 0 is T0), groups 1 to 8. */
 #define SINGLE_LIMIT_ACCOUNTS 16
@@ -139,12 +142,18 @@ extern "C" {
 #define SINGLE_LIMIT_BUY 0
 #define SINGLE_LIMIT_SELL 1
 
-/* In the five figures of a report. */
+/* In the five figures of a report, and of the app's feed. */
 #define SINGLE_LIMIT_FIGURE_VALUATION 0
 #define SINGLE_LIMIT_FIGURE_MARKET_RISK 1
 #define SINGLE_LIMIT_FIGURE_INTEREST_RISK 2
 #define SINGLE_LIMIT_FIGURE_DISCOUNT 3
 #define SINGLE_LIMIT_FIGURE_LIMIT 4
+
+/* The gauge of the app's first screen, and what it shows: nothing (0.0), where the valuation is zero or less, whatever the limit; the shortfall,
+ * -limit in kopecks, where the limit is negative; else the share of the valuation that is used, from 0.0 to 1.0. */
+#define SINGLE_LIMIT_GAUGE_EMPTY 0
+#define SINGLE_LIMIT_GAUGE_OVER 1
+#define SINGLE_LIMIT_GAUGE_USED 2
 
 /* Codes, by number; single_limit_words says each in words. They are looked for in the order 1, 2, 3, 6, 4, 5, 7, 8, 9, 10, and the first that
  * applies is answered: a broken block is found before it is asked whether the account is open. */
@@ -177,7 +186,7 @@ static inline const char *single_limit_words(uint8_t code) {
     case SINGLE_LIMIT_REFUSED_WRONG_AMOUNT:
         return "quantity not 1 to 10^6; order money not 0 to 10^14; move 0, or beyond 10^6 either way (10^14 for rubles)";
     case SINGLE_LIMIT_REFUSED_OUT_OF_BOUNDS:
-        return "a number would leave its bounds, or a withdrawal would leave collateral below 0";
+        return "a number would leave its bounds, or a withdrawal would leave collateral below 0; a NaN's pattern read back";
     case SINGLE_LIMIT_REFUSED_NEGATIVE_LIMIT:
         return "limit after a withdrawal would be negative, or after an order negative and not raised by it";
     default: return "not a code of the engine";
@@ -243,6 +252,18 @@ uint8_t single_limit_roll(int64_t *book, size_t book_length, int64_t account);
 uint8_t single_limit_report(const int64_t *book, size_t book_length, const int64_t *clearing, size_t clearing_length, const int64_t *own,
                             size_t own_length, const int64_t *groups, size_t groups_length, int64_t account, int64_t *figures,
                             size_t figures_length);
+
+/* Feed the app with an account's report: bits takes five numbers, the bits of the figures as floats in kopecks, in report order; each float is
+ * exactly the whole number, and a zero is +0.0. They are what goes to the app. *gauge is one of SINGLE_LIMIT_GAUGE_..., *shown its float: where
+ * used, (market risk + interest risk - discount) / valuation, one division rounded once. Codes are the report's. Where the code is not 0 the gauge
+ * is empty, *shown is +0.0 and bits stay as they were. Another length of bits is code 1, before all else. */
+uint8_t single_limit_app(const int64_t *book, size_t book_length, const int64_t *clearing, size_t clearing_length, const int64_t *own,
+                         size_t own_length, const int64_t *groups, size_t groups_length, int64_t account, uint64_t *bits,
+                         size_t bits_length, uint8_t *gauge, double *shown);
+
+/* Read a feed back: figures takes the floats of the five bits, each with the same bits again. Another length of bits is code 1; a NaN's pattern
+ * among them, which no feed writes, is code 9; then figures takes five +0.0. Another length of figures is code 1, and nothing is written. */
+uint8_t single_limit_app_read(const uint64_t *bits, size_t bits_length, double *figures, size_t figures_length);
 
 #ifdef __cplusplus
 }

@@ -20,9 +20,10 @@ struct buffer {
     int64_t *numbers;
 };
 
-/* The checksum's factors 3, 13 and 17 are of buffers that no call is lent yet. */
+/* The checksum's factors 3 and 13 are of buffers that no call is lent yet. */
 static struct buffer book = {4608, 1, 0, NULL}, clearing = {1024, 5, 0, NULL}, own = {1024, 7, 0, NULL}, groups = {8, 11, 0, NULL};
-static struct buffer *const buffers[] = {&book, &clearing, &own, &groups};
+static struct buffer feed = {5, 17, 0, NULL};
+static struct buffer *const buffers[] = {&book, &clearing, &own, &groups, &feed};
 enum { BUFFERS = sizeof buffers / sizeof *buffers };
 
 static unsigned long line_number;
@@ -99,10 +100,11 @@ static void set_book(const int64_t *n) { set(&book, n); }
 static void set_clearing(const int64_t *n) { set(&clearing, n); }
 static void set_own(const int64_t *n) { set(&own, n); }
 static void set_groups(const int64_t *n) { set(&groups, n); }
+static void set_feed(const int64_t *n) { set(&feed, n); }
 
-/* Book, list, clearing, own, groups and two more; those of buffers that no call is lent yet are passed over. */
+/* Book, list, clearing, own, groups, a table, the feed; those of buffers that no call is lent yet are passed over. */
 static void lend_lengths(const int64_t *n) {
-    static const int at[BUFFERS] = {0, 2, 3, 4};
+    static const int at[BUFFERS] = {0, 2, 3, 4, 6};
     for (int i = 0; i < MOST_NUMBERS; i++)
         if (n[i] < 0 || n[i] > 1000000) stop("no length");
     for (int b = 0; b < BUFFERS; b++) resize(buffers[b], (size_t)n[at[b]]);
@@ -110,6 +112,8 @@ static void lend_lengths(const int64_t *n) {
 
 #define LENT(buffer) (buffer).numbers, (buffer).length
 #define TABLES LENT(clearing), LENT(own), LENT(groups)
+/* A script has signed numbers, and a float's bits are unsigned: the same bits. */
+#define BITS (uint64_t *)feed.numbers, feed.length
 
 /* What a call writes beside the book stands between guard words too, and is not zero before. */
 static void check(const int64_t *n) {
@@ -144,6 +148,39 @@ static void report(const int64_t *n) {
     printf(" %llu\n", (unsigned long long)checksum());
 }
 
+static long long bits_of(double number) {
+    int64_t bits;
+    memcpy(&bits, &number, sizeof bits);
+    return (long long)bits;
+}
+
+/* Where it is refused the feed stays, which the checksum shows, and zeros stand for the record's bits. */
+static void app(const int64_t *n) {
+    uint8_t gauge[3] = {7, 7, 7};
+    double shown[3] = {-7.0, -7.0, -7.0};
+    uint8_t code = single_limit_app(LENT(book), TABLES, n[0], BITS, &gauge[1], &shown[1]);
+    look_at_guards();
+    if (gauge[0] != 7 || gauge[2] != 7) stop("more than the gauge was written");
+    if (shown[0] != -7.0 || shown[2] != -7.0) stop("more than what the gauge shows was written");
+    if (code == 0 && feed.length != FIGURES) stop("another length of the feed was taken");
+    printf("%u", code);
+    for (int i = 0; i < FIGURES; i++) printf(" %lld", code == 0 ? (long long)feed.numbers[i] : 0);
+    printf(" %u %lld %llu\n", gauge[1], bits_of(shown[1]), (unsigned long long)checksum());
+}
+
+static void unapp(const int64_t *n) {
+    (void)n;
+    double words[GUARDS + FIGURES + GUARDS], *figures = words + GUARDS;
+    for (int i = 0; i < GUARDS + FIGURES + GUARDS; i++) words[i] = -7.0;
+    uint8_t code = single_limit_app_read(BITS, figures, FIGURES);
+    look_at_guards();
+    for (int i = 0; i < GUARDS; i++)
+        if (words[i] != -7.0 || figures[FIGURES + i] != -7.0) stop("more than five floats were written");
+    printf("%u", code);
+    for (int i = 0; i < FIGURES; i++) printf(" %lld", bits_of(figures[i]));
+    printf("\n");
+}
+
 static const struct command {
     const char *word;
     int numbers;
@@ -153,6 +190,7 @@ static const struct command {
     {"C", 2, set_clearing},
     {"O", 2, set_own},
     {"G", 2, set_groups},
+    {"F", 2, set_feed},
     {"L", 7, lend_lengths},
     {"Z", 0, reset},
     {"check", 0, check},
@@ -162,6 +200,8 @@ static const struct command {
     {"order", 6, order},
     {"roll", 1, roll},
     {"report", 1, report},
+    {"app", 1, app},
+    {"unapp", 0, unapp},
 };
 
 /* One space and a number, as often as asked; then the line ends. */

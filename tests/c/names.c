@@ -1,6 +1,6 @@
 /* The names and helpers of include/single_limit.h held to the engine's answers: every number of a row is broken at its edge and found again by its
- * name, every number of a block is written by a call and found by its helper, and every code is provoked. Says nothing and returns 0 where all
- * is as named. */
+ * name, every number of a block is written by a call and found by its helper, and every code and gauge is provoked. Says nothing and returns 0
+ * where all is as named. */
 #include "single_limit.h"
 
 #include <stdio.h>
@@ -210,7 +210,33 @@ static void named_figures(void) {
     figures_are("S9", (const int64_t[]){0, 20000, 1000, 0, -21000});
 }
 
+static void gauge_is(const char *what, uint8_t wanted, double shown_wanted) {
+    uint64_t bits[SINGLE_LIMIT_FIGURES_LENGTH];
+    uint8_t gauge;
+    double shown, figures[SINGLE_LIMIT_FIGURES_LENGTH];
+    expect(what, single_limit_app(BOOK, TABLES, ACCOUNT, bits, SINGLE_LIMIT_FIGURES_LENGTH, &gauge, &shown), SINGLE_LIMIT_DONE);
+    expect(what, gauge, wanted);
+    expect(what, shown == shown_wanted, 1);
+    expect(what, single_limit_app_read(bits, SINGLE_LIMIT_FIGURES_LENGTH, figures, SINGLE_LIMIT_FIGURES_LENGTH), SINGLE_LIMIT_DONE);
+    if (wanted == SINGLE_LIMIT_GAUGE_OVER) expect("the shortfall", shown == -figures[SINGLE_LIMIT_FIGURE_LIMIT], 1);
+}
+
+/* S11, which has a discount, with rubles, with too few of them, and as it is: without valuation. */
+static void gauges(void) {
+    start(SINGLE_LIMIT_ACCOUNT_ORDINARY);
+    row_a(clearing, ASSET + 1);
+    book[single_limit_claim_at(ACCOUNT, ASSET, 1)] = 10;
+    book[single_limit_obligation_at(ACCOUNT, ASSET + 1, 1)] = 10;
+    book[single_limit_ruble_net_at(ACCOUNT, 3)] = 100000;
+    gauge_is("used", SINGLE_LIMIT_GAUGE_USED, 0.43);
+    book[single_limit_ruble_net_at(ACCOUNT, 3)] = 40000;
+    gauge_is("over", SINGLE_LIMIT_GAUGE_OVER, 3000.0);
+    book[single_limit_ruble_net_at(ACCOUNT, 3)] = 0;
+    gauge_is("empty", SINGLE_LIMIT_GAUGE_EMPTY, 0.0);
+}
+
 static void codes(void) {
+    double floats[SINGLE_LIMIT_FIGURES_LENGTH];
     start(SINGLE_LIMIT_ACCOUNT_ORDINARY);
     expect("length", single_limit_roll(book, SINGLE_LIMIT_BOOK_LENGTH + 1, ACCOUNT), SINGLE_LIMIT_REFUSED_WRONG_LENGTH);
     expect("account", single_limit_roll(BOOK, SINGLE_LIMIT_ACCOUNTS), SINGLE_LIMIT_REFUSED_NO_ACCOUNT);
@@ -221,6 +247,8 @@ static void codes(void) {
     expect("date", order(SINGLE_LIMIT_DATES, SINGLE_LIMIT_BUY, 1, 1), SINGLE_LIMIT_REFUSED_WRONG_CHOICE);
     expect("amount", move(ASSET, SINGLE_LIMIT_MOST_UNITS + 1), SINGLE_LIMIT_REFUSED_WRONG_AMOUNT);
     expect("withdrawal", move(ASSET, -1), SINGLE_LIMIT_REFUSED_OUT_OF_BOUNDS);
+    expect("a NaN", single_limit_app_read((const uint64_t[]){0, 0, 0, 0, UINT64_MAX}, SINGLE_LIMIT_FIGURES_LENGTH, floats,
+                                          SINGLE_LIMIT_FIGURES_LENGTH), SINGLE_LIMIT_REFUSED_OUT_OF_BOUNDS);
     expect("limit", order(1, SINGLE_LIMIT_BUY, 10, 100000), SINGLE_LIMIT_REFUSED_NEGATIVE_LIMIT);
     /* 6 is looked for before 4: a block that is not open and not all zero. */
     book[single_limit_block_at(2, SINGLE_LIMIT_BLOCK_RUBLE_COLLATERAL)] = 1;
@@ -239,6 +267,7 @@ int main(void) {
     blocks();
     figures();
     named_figures();
+    gauges();
     codes();
     return failures != 0;
 }

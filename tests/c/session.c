@@ -1,5 +1,5 @@
-/* Document 01's session, its two orders at the edge, and refusals, by the calls of include/single_limit.h. Says nothing and returns 0 where all is
- * as the document says. */
+/* Document 01's session, its two orders at the edge, the app's feed of both accounts, and refusals, by the calls of include/single_limit.h. Says
+ * nothing and returns 0 where all is as the documents say. */
 #include "single_limit.h"
 
 #include <stdio.h>
@@ -19,6 +19,14 @@ static void expect(const char *what, int64_t found, int64_t wanted) {
 
 static uint8_t move(int64_t account, int64_t asset, int64_t amount) {
     return single_limit_move(book, BOOK, clearing, TABLE, own, TABLE, groups, GROUPS, account, asset, amount);
+}
+
+/* By bits, so that -0.0 is not taken for +0.0. */
+static void expect_float(const char *what, double found, double wanted) {
+    if (memcmp(&found, &wanted, sizeof found) != 0) {
+        printf("%s: %a, and not %a\n", what, found, wanted);
+        failures++;
+    }
 }
 
 static uint8_t buy_ten(int64_t account) {
@@ -86,6 +94,88 @@ static void covers(void) {
     clearing[12] = 1;
 }
 
+/* What goes to the app: the report's figures as floats, and the gauge. */
+static void feed_is(const char *what, int64_t account, uint8_t gauge_wanted, double shown_wanted) {
+    int64_t figures[5];
+    uint64_t bits[5] = {1, 2, 3, 4, 5};
+    double floats[5] = {-7.0, -7.0, -7.0, -7.0, -7.0}, shown = -7.0;
+    uint8_t gauge = 7;
+    expect(what, report(account, figures), 0);
+    expect(what, single_limit_app(book, BOOK, clearing, TABLE, own, TABLE, groups, GROUPS, account, bits, 5, &gauge, &shown), 0);
+    expect(what, gauge, gauge_wanted);
+    expect_float(what, shown, shown_wanted);
+    expect("its feed read back", single_limit_app_read(bits, 5, floats, 5), 0);
+    expect("the same bits", memcmp(bits, floats, sizeof bits), 0);
+    for (int i = 0; i < 5; i++) expect_float("each figure as it is", floats[i], (double)figures[i]);
+}
+
+/* The session's account has no risk. That at the edge is used up; with a kopeck less it is over by it; with no valuation there is nothing to show,
+ * although its limit is negative. */
+static void the_feed(void) {
+    uint64_t bits[5];
+    uint8_t gauge;
+    double shown;
+    expect("a feed", single_limit_app(book, BOOK, clearing, TABLE, own, TABLE, groups, GROUPS, 0, bits, 5, &gauge, &shown), 0);
+    expect("100,000 kopecks as a float", bits[0] == UINT64_C(0x40f86a0000000000), 1);
+    expect("no market risk", bits[1] == 0, 1);
+    feed_is("nothing used", 0, 2, 0.0);
+    feed_is("all used", 1, 2, 1.0);
+    book[BLOCK + 1] = 30000;
+    feed_is("seven tenths, rounded once", 1, 2, 0.7);
+    book[BLOCK + 1] = 20999;
+    feed_is("over by a kopeck", 1, 1, 1.0);
+    book[BLOCK + 1] = 1;
+    feed_is("a valuation of one kopeck", 1, 1, 20999.0);
+    book[BLOCK + 1] = 0;
+    feed_is("no valuation", 1, 0, 0.0);
+    book[BLOCK + 1] = -1;
+    feed_is("a negative valuation", 1, 0, 0.0);
+    book[BLOCK + 1] = 21000;
+}
+
+/* A refused feed leaves the bits as they were, and shows nothing. */
+static void feed_refused(const char *what, int64_t account, size_t bits_length, uint8_t code) {
+    static const uint64_t before[6] = {11, 12, 13, 14, 15, 16};
+    uint64_t bits[6];
+    uint8_t gauge = 7;
+    double shown = -7.0;
+    memcpy(bits, before, sizeof before);
+    expect(what, single_limit_app(book, BOOK, clearing, TABLE, own, TABLE, groups, GROUPS, account, bits, bits_length, &gauge, &shown), code);
+    expect("the bits as they were", memcmp(bits, before, sizeof before), 0);
+    expect("an empty gauge", gauge, 0);
+    expect_float("nothing shown", shown, 0.0);
+}
+
+/* A refused reading back gives five zeros; another length of figures leaves them as they were. */
+static void read_refused(const char *what, const uint64_t *bits, size_t bits_length, size_t figures_length, uint8_t code) {
+    double figures[6] = {-7.0, -7.0, -7.0, -7.0, -7.0, -7.0};
+    expect(what, single_limit_app_read(bits, bits_length, figures, figures_length), code);
+    for (int i = 0; i < 6; i++) expect_float(what, figures[i], i < 5 && figures_length == 5 ? 0.0 : -7.0);
+}
+
+static void refusals_of_the_feed(void) {
+    static const uint64_t infinity = UINT64_C(0x7ff0000000000000), minus = UINT64_C(0x8000000000000000);
+    static const size_t lengths[4] = {0, 4, 6, 1};
+    double figures[5];
+    for (int i = 0; i < 4; i++) {
+        uint64_t bits[6] = {infinity + 1, 2, 3, 4, 5, 6};
+        feed_refused("bits of another length", 16, lengths[i], 1);
+        read_refused("bits of another length", bits, lengths[i], 5, 1);
+        read_refused("figures of another length", bits, 5, lengths[i], 1);
+    }
+    feed_refused("account 16", 16, 5, 3);
+    feed_refused("account 2 is not open", 2, 5, 4);
+    for (int i = 0; i < 5; i++) {
+        uint64_t bits[5] = {1, minus, infinity, minus + infinity, 0};
+        expect("any number's pattern", single_limit_app_read(bits, 5, figures, 5), 0);
+        expect("its bits again", memcmp(bits, figures, sizeof bits), 0);
+        bits[i] = infinity + 1;
+        read_refused("a NaN's pattern", bits, 5, 5, 9);
+        bits[i] = UINT64_MAX;
+        read_refused("a negative NaN's pattern", bits, 5, 5, 9);
+    }
+}
+
 static void refusals(void) {
     int64_t before[BOOK], figures[5] = {1, 2, 3, 4, 5};
     uint64_t place = 7;
@@ -105,6 +195,7 @@ static void refusals(void) {
     expect("a percent of 51", single_limit_check_tables(clearing, TABLE, own, TABLE, groups, GROUPS, &place), 2);
     expect("its place", (int64_t)place, 2055);
     expect("an order under it", buy_ten(1), 2);
+    feed_refused("a feed under it", 1, 5, 2);
     groups[7] = 0;
     expect("the book as it was", memcmp(before, book, sizeof book), 0);
 }
@@ -113,6 +204,8 @@ int main(void) {
     the_session();
     the_edge();
     covers();
+    the_feed();
+    refusals_of_the_feed();
     refusals();
     return failures != 0;
 }

@@ -14,6 +14,7 @@ include/single_limit.h explains rows, blocks and codes number by number."""
 from . import names
 from .engine import Book, Figures, Tables, block_at, claim_at, collateral_at, date_at, obligation_at, row_at, ruble_net_at
 from .face import load
+from .feed import Feed, Floats, app_read
 from .refusal import Code, Refused
 
-__version__ = "1.1.0"
+__version__ = "1.2.0"

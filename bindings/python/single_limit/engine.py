@@ -6,16 +6,12 @@ from typing import NamedTuple
 
 from . import names
 from .face import call, lent, number
-from .refusal import Refused
+from .feed import Feed, floats_at
+from .refusal import passed
 
 
 def zeros(length):
     return array("q", bytes(8 * length))
-
-
-def passed(code, place=0):
-    if code != 0:
-        raise Refused(code, place)
 
 
 class Figures(NamedTuple):
@@ -81,6 +77,13 @@ class Book:
         figures = zeros(names.FIGURES_LENGTH)
         passed(call("report", *lent(self.numbers), *tables.lent(), number(account), *lent(figures)))
         return Figures(*figures)
+
+    def app(self, tables, account):
+        """An account's report for the app; app_read reads the bits of it back."""
+        bits, gauge, shown = array("Q", names.FIGURES_LENGTH * [0]), ctypes.c_uint8(), ctypes.c_double()
+        written = *lent(bits, typecode="Q"), ctypes.byref(gauge), ctypes.byref(shown)
+        passed(call("app", *lent(self.numbers), *tables.lent(), number(account), *written))
+        return Feed(tuple(bits), floats_at(bits), gauge.value, shown.value)
 
 
 def row_at(asset, row_number):

@@ -5,13 +5,19 @@ import operator
 import os
 
 NUMBERS = ctypes.POINTER(ctypes.c_int64)
-PLACE = ctypes.POINTER(ctypes.c_uint64)
+UNSIGNED = ctypes.POINTER(ctypes.c_uint64)
+FLOATS = ctypes.POINTER(ctypes.c_double)
+GAUGE = ctypes.POINTER(ctypes.c_uint8)
 LENGTH = ctypes.c_size_t
 NUMBER = ctypes.c_int64
 
 BOOK = [("book", NUMBERS), ("book_length", LENGTH)]
 RATES = [("clearing", NUMBERS), ("clearing_length", LENGTH), ("own", NUMBERS), ("own_length", LENGTH)]
 TABLES = RATES + [("groups", NUMBERS), ("groups_length", LENGTH)]
+BITS = [("bits", UNSIGNED), ("bits_length", LENGTH)]
+
+# What an array of a typecode holds.
+HELD = {"q": ctypes.c_int64, "Q": ctypes.c_uint64, "d": ctypes.c_double}
 
 
 def numbers(*words):
@@ -19,13 +25,15 @@ def numbers(*words):
 
 
 FUNCTIONS = {
-    "single_limit_check_tables": TABLES + [("place", PLACE)],
+    "single_limit_check_tables": TABLES + [("place", UNSIGNED)],
     "single_limit_covers": RATES + numbers("asset"),
     "single_limit_open": BOOK + numbers("account", "kind"),
     "single_limit_move": BOOK + TABLES + numbers("account", "asset", "amount"),
     "single_limit_order": BOOK + TABLES + numbers("account", "asset", "date", "side", "quantity", "money"),
     "single_limit_roll": BOOK + numbers("account"),
     "single_limit_report": BOOK + TABLES + numbers("account") + [("figures", NUMBERS), ("figures_length", LENGTH)],
+    "single_limit_app": BOOK + TABLES + numbers("account") + BITS + [("gauge", GAUGE), ("shown", FLOATS)],
+    "single_limit_app_read": BITS + [("figures", FLOATS), ("figures_length", LENGTH)],
 }
 
 loaded = None
@@ -52,14 +60,14 @@ def number(value):
     return value
 
 
-def lent(*arrays):
-    """Pointer and length of each array('q')."""
+def lent(*arrays, typecode="q"):
+    """Pointer and length of each array: numbers are 'q', bits 'Q', floats 'd'."""
     for numbers_lent in arrays:
-        if numbers_lent.typecode != "q":
-            raise TypeError("numbers are lent as array('q')")
+        if numbers_lent.typecode != typecode:
+            raise TypeError(f"numbers are lent as array('{typecode}')")
         # An empty array has no buffer to point to; the engine refuses its length before it looks.
         room = numbers_lent if len(numbers_lent) else bytearray(8)
-        yield (ctypes.c_int64 * (len(numbers_lent) or 1)).from_buffer(room)
+        yield (HELD[typecode] * (len(numbers_lent) or 1)).from_buffer(room)
         yield len(numbers_lent)
 
 

@@ -83,9 +83,14 @@ RUBLES = 255
 BUY = 0
 SELL = 1
 
-# In a report.
+# In a report, and in the app's feed.
 FIGURE_VALUATION = 0
 FIGURE_MARKET_RISK = 1
 FIGURE_INTEREST_RISK = 2
 FIGURE_DISCOUNT = 3
 FIGURE_LIMIT = 4
+
+# Gauges of the app's first screen.
+GAUGE_EMPTY = 0
+GAUGE_OVER = 1
+GAUGE_USED = 2

@@ -29,7 +29,7 @@ WORDS = {
     "account kind to open not 1 to 3",
     Code.WRONG_AMOUNT: "quantity not 1 to 10^6; order money not 0 to 10^14; "
     "move 0, or beyond 10^6 either way (10^14 for rubles)",
-    Code.OUT_OF_BOUNDS: "a number would leave its bounds, or a withdrawal would leave collateral below 0",
+    Code.OUT_OF_BOUNDS: "a number would leave its bounds, or a withdrawal would leave collateral below 0; a NaN's pattern read back",
     Code.NEGATIVE_LIMIT: "limit after a withdrawal would be negative, or after an order negative and not raised by it",
 }
 
@@ -42,3 +42,8 @@ class Refused(Exception):
         self.code = Code(code)
         self.place = place
         super().__init__(WORDS[self.code])
+
+
+def passed(code, place=0):
+    if code != 0:
+        raise Refused(code, place)

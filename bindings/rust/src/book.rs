@@ -1,6 +1,7 @@
 //! The book.
 
 use crate::calls::{self, Figures, Order};
+use crate::feed::Feed;
 use crate::names::{
     ACCOUNTS, ASSETS, BLOCK_HOLDINGS, BLOCK_LENGTH, BLOCK_RUBLE_COLLATERAL, BLOCK_RUBLE_NETS, BOOK_LENGTH, DATES,
     HOLDING_CLAIMS, HOLDING_LENGTH, HOLDING_OBLIGATIONS,
@@ -38,6 +39,11 @@ impl Book {
     /// Report an account.
     pub fn report(&self, tables: &Tables, account: i64) -> Result<Figures, Refusal> {
         calls::report(&self.0[..], tables.lent(), account)
+    }
+
+    /// Feed the app with an account's report; `calls::app_read` reads the feed's bits back.
+    pub fn app(&self, tables: &Tables, account: i64) -> Result<Feed, Refusal> {
+        calls::app(&self.0[..], tables.lent(), account)
     }
 
     /// All numbers, block after block, to be stored or looked at; the `_at` functions say which is which.

@@ -4,6 +4,7 @@
 //! alone. `Book` and `Tables` make the same calls.
 
 use crate::face;
+use crate::feed::{Feed, Floats, Gauge};
 use crate::names::FIGURES_LENGTH;
 use crate::refusal::{Refusal, Unsound, answer};
 
@@ -146,4 +147,36 @@ pub fn report(book: &[i64], lent: Lent<'_>, account: i64) -> Result<Figures, Ref
     })?;
     let [valuation, market_risk, interest_risk, discount, limit] = figures;
     Ok(Figures { valuation, market_risk, interest_risk, discount, limit })
+}
+
+/// Feed the app with an account's report.
+pub fn app(book: &[i64], lent: Lent<'_>, account: i64) -> Result<Feed, Refusal> {
+    let Lent { clearing, own, groups } = lent;
+    let (mut bits, mut gauge, mut shown) = ([0; FIGURES_LENGTH], 0, 0.0);
+    answer(unsafe {
+        face::single_limit_app(
+            book.as_ptr(),
+            book.len(),
+            clearing.as_ptr(),
+            clearing.len(),
+            own.as_ptr(),
+            own.len(),
+            groups.as_ptr(),
+            groups.len(),
+            account,
+            bits.as_mut_ptr(),
+            bits.len(),
+            &mut gauge,
+            &mut shown,
+        )
+    })?;
+    let figures = Floats::in_report_order(bits.map(f64::from_bits));
+    Ok(Feed { bits, figures, gauge: Gauge::read(gauge, shown) })
+}
+
+/// Read a feed's bits back: five floats with the same bits again. A NaN's pattern, which no feed has, is `Refusal::OutOfBounds`.
+pub fn app_read(bits: &[u64]) -> Result<Floats, Refusal> {
+    let mut figures = [0.0; FIGURES_LENGTH];
+    answer(unsafe { face::single_limit_app_read(bits.as_ptr(), bits.len(), figures.as_mut_ptr(), figures.len()) })?;
+    Ok(Floats::in_report_order(figures))
 }

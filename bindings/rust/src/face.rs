@@ -67,4 +67,22 @@ unsafe extern "C" {
         figures: *mut i64,
         figures_length: usize,
     ) -> u8;
+
+    pub fn single_limit_app(
+        book: *const i64,
+        book_length: usize,
+        clearing: *const i64,
+        clearing_length: usize,
+        own: *const i64,
+        own_length: usize,
+        groups: *const i64,
+        groups_length: usize,
+        account: i64,
+        bits: *mut u64,
+        bits_length: usize,
+        gauge: *mut u8,
+        shown: *mut f64,
+    ) -> u8;
+
+    pub fn single_limit_app_read(bits: *const u64, bits_length: usize, figures: *mut f64, figures_length: usize) -> u8;
 }

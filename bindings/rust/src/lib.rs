@@ -17,12 +17,14 @@
 pub mod book;
 pub mod calls;
 mod face;
+pub mod feed;
 pub mod names;
 mod refusal;
 pub mod tables;
 
 pub use book::Book;
 pub use calls::{Figures, Lent, Order};
+pub use feed::{Feed, Floats, Gauge};
 pub use refusal::{Refusal, Unsound};
 pub use tables::{Row, Table, Tables};
 

@@ -85,9 +85,14 @@ pub const RUBLES: i64 = 255;
 pub const BUY: i64 = 0;
 pub const SELL: i64 = 1;
 
-// In a report.
+// In a report, and in the app's feed.
 pub const FIGURE_VALUATION: usize = 0;
 pub const FIGURE_MARKET_RISK: usize = 1;
 pub const FIGURE_INTEREST_RISK: usize = 2;
 pub const FIGURE_DISCOUNT: usize = 3;
 pub const FIGURE_LIMIT: usize = 4;
+
+// Gauges of the app's first screen.
+pub const GAUGE_EMPTY: u8 = 0;
+pub const GAUGE_OVER: u8 = 1;
+pub const GAUGE_USED: u8 = 2;

@@ -23,7 +23,7 @@ pub enum Refusal {
     WrongChoice = 7,
     /// A quantity, a sum of money or a move outside its bounds.
     WrongAmount = 8,
-    /// A number would leave its bounds, or a withdrawal would leave collateral below 0.
+    /// A number would leave its bounds, or a withdrawal would leave collateral below 0; or bits that are read back are a NaN's.
     OutOfBounds = 9,
     /// The limit after a withdrawal would be negative, or after an order negative and not raised by it.
     NegativeLimit = 10,
@@ -67,7 +67,9 @@ impl Refusal {
             Refusal::WrongAmount => {
                 "quantity not 1 to 10^6; order money not 0 to 10^14; move 0, or beyond 10^6 either way (10^14 for rubles)"
             }
-            Refusal::OutOfBounds => "a number would leave its bounds, or a withdrawal would leave collateral below 0",
+            Refusal::OutOfBounds => {
+                "a number would leave its bounds, or a withdrawal would leave collateral below 0; a NaN's pattern read back"
+            }
             Refusal::NegativeLimit => {
                 "limit after a withdrawal would be negative, or after an order negative and not raised by it"
             }
