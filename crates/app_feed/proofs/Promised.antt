@@ -2,23 +2,23 @@
 use mathlib.Core.Path.{_≡_, refl, sym, ap, _∙_, subst}
 use mathlib.Core.Bool.{Bool, true, false, not, cond}
 use mathlib.Core.List.{List, [], _∷_, map}
-use Prim.Native.Nat.{ℕ, zero, suc, _<_, _^_}
+use Prim.Native.Nat.{ℕ, _<_, _^_}
 use native.Mathlib.Omega.{arith}
 use lib.Dec.{T, eqb}
-use lib.IntN.{ℤ, pos, negsuc, negℤ, natAbs, _-ℤ_}
+use lib.IntN.{ℤ, pos, negℤ, natAbs, _-ℤ_}
 use lib.ListN.{length, getD}
 use lib.Signed.{leZ, ltZ, _≤ℤ_}
-use lib.Ieee.{binary64, div, toBits, ofBits, isNan, nanBits}
+use lib.Ieee.{binary64, div, toBits, ofBits, isNan}
 use lib.Ieee.Bits.{ofBits-toBits, toBits-ofBits, nanBits-is, is-true}
 use lib.Ieee.Fits.{ofInt-fits}
 use borrow.Author.Tests.{eq-eqb, eqb-true, not-false}
 use Rattle.whole.specs.Marks.{allTrue}
 use Rattle.whole.specs.Refusals.{firstCode, wrongLength}
+use Rattle.whole.proofs.InRange.{neg-size}
 use Rattle.whole.proofs.Rules.{ints}
 use Rattle.whole.proofs.Refusals.{none, miss, code, none-holds, kept, changed}
 use Rattle.whole.proofs.Tests.{denied}
 use Rattle.whole.proofs.Lists.{next, last, passes}
-use Rattle.whole.proofs.Marks.{all-numbers}
 use Rattle.rates.specs.Lent.{Tables}
 use Rattle.figures.specs.Ranges.{Below2^53}
 use Rattle.figures.specs.declared.limit.Figures.{Figures}
@@ -33,6 +33,7 @@ use Rattle.app_feed.specs.Promised.{AreExactly, Gauges, Feeds, Refuses, 
 use Rattle.app_feed.specs.declared.feeding.Fed.{Fed}
 use Rattle.app_feed.specs.declared.gauge.Gauge.the-variants.{Empty, Over, Used}
 use Rattle.app_feed.proofs.Five.{as-five}
+use Rattle.app_feed.proofs.Patterns.{each-pattern}
 use Rattle.app_feed.proofs.Exact.{is-exactly, has-bits}
 use Rattle.app_feed.proofs.Reported.{reports-below, report-balanced}
 use Rattle.app_feed.proofs.Sending.{count-right}
@@ -54,11 +55,6 @@ no-figures-below =
     record { valuation-below = omega arith; market-below = omega arith; interest-below = omega arith; discount-below = omega arith; limit-below = omega arith }
 
 -- ---- the gauge
-size-turned : (z : ℤ) → natAbs (negℤ z) ≡ natAbs z
-size-turned (pos zero) = refl
-size-turned (pos (suc n)) = refl
-size-turned (negsuc n) = refl
-
 at-most : (part whole limit : ℤ) → limit ≡ whole -ℤ part → ltZ limit (pos 0) ≡ false → part ≤ℤ whole
 at-most part whole limit e h = omega ints
 
@@ -69,7 +65,7 @@ module _ (f : Figures) (below : Below2^53 f) (balanced : Balanced f) where
   by-case false true e h = (
     omega ints,
     record { lt = subst T (sym h) tt },
-    is-exactly (negℤ (f .limit)) (omega (arith, below .limit-below, size-turned (f .limit))),
+    is-exactly (negℤ (f .limit)) (omega (arith, below .limit-below, neg-size (f .limit))),
   )
   by-case false false e h = (
     omega ints,
@@ -124,10 +120,6 @@ module _ (f : Figures) (below : Below2^53 f) where
       let e = code (miss (denied (eq-eqb _ 5 five-numbers)) (miss (denied all-patterned) none)) in
       sym (λ i. record { code = e i; figures = (sym same-floats ∙ changed _ (floatsAt (bitsOf (floatsOf f))) (floatsOf noFigures) (sym e)) i })
 
-zero-patterned : isPattern 0 ≡ true
-unfolding nanBits
-zero-patterned = refl
-
 -- five patterns, read and written again
 written-again : (bits : List ℕ) → length bits ≡ 5 → ((k : ℕ) → getD bits k 0 < 2 ^ 64) → ((k : ℕ) → isPattern (getD bits k 0) ≡ true)
     → bitsOf (floatsAt bits) ≡ bits
@@ -142,7 +134,7 @@ unfolding receivedOf
 same-bits bits small e =
     let off = none-holds (readRefusals bits) tt e in
     ap bitsOf (sym (changed _ (floatsAt bits) (floatsOf noFigures) e))
-    ∙ written-again bits (eqb-true (length bits) 5 (not-false _ (off 0))) small (all-numbers isPattern bits 0 zero-patterned (not-false _ (off 1)))
+    ∙ written-again bits (eqb-true (length bits) 5 (not-false _ (off 0))) small (each-pattern bits (not-false _ (off 1)))
 
 -- ---- a feed, by the report that it is made of
 module _ (tables : Tables) (i : ℕ) (s : State) (bits : List ℕ) where

@@ -1,24 +1,17 @@
 -- `reading::floats_at` meets its contract: each of the five is a pattern. Assumes nothing.
-use mathlib.Core.Path.{_≡_, refl, sym, subst}
-use mathlib.Core.Bool.{true}
+use mathlib.Core.Path.{refl, sym, subst}
 use Prim.Native.Nat.{ℕ}
 use lib.Dec.{T}
 use lib.ListN.{getD}
-use lib.Ieee.{nanBits}
 use borrow.Author.Needs.{needs}
-use Rattle.whole.proofs.Marks.{all-numbers}
 use Rattle.app_feed.specs.Floats.{floatsAt}
 use Rattle.app_feed.specs.Received.{isPattern}
+use Rattle.app_feed.proofs.Patterns.{each-pattern}
 use Rattle.app_feed.proofs.reading.floats_at.Statement.{statement}
 use Rattle.app_feed.proofs.reading.floats_at.Tie as tie
 
--- past the five numbers zeros are read, and zero is a pattern
-zero-is : isPattern 0 ≡ true
-unfolding nanBits
-zero-is = refl
-
 each : (s : tie.Start) (k : ℕ) → T (isPattern (getD (s .args .bits .now) k 0))
-each s k = subst T (sym (all-numbers isPattern (s .args .bits .now) 0 zero-is (s .pre .1) k)) tt
+each s k = subst T (sym (each-pattern (s .args .bits .now) (s .pre .1) k)) tt
 
 returns : tie.Need-returns
 unfolding floatsAt
