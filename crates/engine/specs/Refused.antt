@@ -28,7 +28,7 @@ use Rattle.engine.specs.State.{State, blockAt, changedAt}
 unfoldable pub placeOf : ℤ → ℕ
 placeOf account = cond (between (pos 0) account (pos 15)) (natAbs account) accounts
 
--- ---- codes 1, 2 and 3
+-- ---- codes 1, 2, 13 and 3
 -- of a call that is lent the book alone
 abbrev pub bookGate : ℕ → State → List Refusal
 bookGate i s =

@@ -10,7 +10,7 @@ ghost use Rattle.engine.specs.Ranges.{Judgeable};
 use book::in_block;
 use whole::codes;
 
-// What the calls begin with: codes 1, 2, 3, then 6 and 4 of the account's block.
+// What the calls begin with: codes 1, 2, 13, 3, then 6 and 4 of the account's block.
 
 const LAST_ACCOUNT: i64 = 15;
 
@@ -37,7 +37,7 @@ pub(crate) fn book_gate(book: &[i64], i: usize) -> u8
     codes::DONE
 }
 
-// Codes 1, 2 and 3 of a call that is lent tables and groups too.
+// Codes 1, 2, 13 and 3 of a call that is lent tables and groups too.
 fn table_gate(book: &[i64], clearing: &[i64], own: &[i64], groups: &[i64], i: usize) -> u8
     ensures { λ r. ⌜ r ≡ firstCode (tableGate (given clearing own groups) i (found book)) ⌝ }
 {

@@ -15,7 +15,7 @@ pub struct Reported {
     pub figures: figures::Figures,
 }
 
-// Check tables: code, and the place of the first broken number with code 2.
+// Check tables: code, and the place of the first broken number with code 2, of the first laxer one with 13.
 pub fn check_tables(clearing: &[i64], own: &[i64], groups: &[i64]) -> rates::Checked
     ensures { λ r. ⌜ r ≡ checked (given clearing own groups) ⌝ }
 {

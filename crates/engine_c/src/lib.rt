@@ -14,7 +14,7 @@ use whole::codes;
 // Numbers of a report.
 const FIGURES: usize = 5;
 
-// Check tables: the code; the place of the first broken number, with code 2, goes to `place`, else 0.
+// Check tables: the code; the place of the first broken number, with code 2, or of the first laxer one, with 13, goes to `place`, else 0.
 #[no_mangle]
 pub extern "C" fn single_limit_check_tables(
     clearing: &[i64],

@@ -8,7 +8,8 @@ use Rattle.whole.specs.Marks.{allTrue, allZero, every, pieces}
 use Rattle.whole.specs.Refusals.{firstCode, leaves}
 use Rattle.rates.specs.Row.{highestRate}
 use Rattle.rates.specs.Rules.{termMarks, rateMarks, limitMarks, dateMarks, listedMarks, rowMarks}
-use Rattle.rates.specs.Tables.{listed, ownKindRight, ownRowMarks, clearingMarks, ownMarks, tableMarks, lengthsRight, soundTables}
+use Rattle.rates.specs.Stricter.{stricterTerms, stricterRates, stricterLimits, stricterDate, stricterRow}
+use Rattle.rates.specs.Tables.{listed, ownKindRight, ownRowMarks, clearingMarks, ownMarks, tableMarks, lengthsRight, soundTables, stricterOwnRow, stricterAt, onlyStricter}
 use Rattle.rates.specs.InForce.{inForce, outerWidth, coverTest}
 use Rattle.book.specs.Block.{moveAt}
 use Rattle.book.specs.Changes.{added, moneyOf, traded}
@@ -25,17 +26,19 @@ use Rattle.engine.specs.Report.{reportOf}
 use Rattle.promises.specs.Sums.{written, zeros, SumsMet}
 use Rattle.promises.specs.Wrong.{reckoned, same, meets, withSides, unitRisk, exactDiscount, roundedLast, WaysRefused}
 use Rattle.promises.specs.Needed.{CasesAnswered, Facts}
+use Rattle.promises.specs.OwnRows.{Raised}
 
 pub record Computed : Type 0 where
   pub sums-met : SumsMet
   pub ways-refused : WaysRefused
   pub cases-answered : CasesAnswered
   pub facts : Facts
+  pub raised : Raised
 
 pub computed : Computed
 unfolding written zeros added moveAt minℤ maxℤ absℤ dividedDown dividedUp between Σ< part put tabulated allTrue pieces allZero firstCode leaves termMarks
     rateMarks limitMarks dateMarks listedMarks rowMarks listed ownKindRight ownRowMarks clearingMarks ownMarks tableMarks lengthsRight soundTables
-    inForce highestRate outerWidth coverTest headMarks holdingRight every inBounds goodBlock holdsListed poolShareInForce shareByKind regimeOf counted
+    stricterTerms stricterRates stricterLimits stricterDate stricterRow stricterOwnRow stricterAt onlyStricter inForce highestRate outerWidth coverTest headMarks holdingRight every inBounds goodBlock holdsListed poolShareInForce shareByKind regimeOf counted
     net trades adjustedCollateral position leftOut valuedCollateral worthOf assetUnder charge unitsCharge marketCharge sideRisk positionSum longSum
     shortSum marketRisk fallCharge riseCharge interestOf interestRisk longRisk shortRisk groupOf partOf inGroup byGroup totalsOf discountOf discount
     singleLimit figuresOf rublesOf partIn blockFigures moneyOf traded atAccount enough raised admitted judgedTrade ordering outcomeOf reportOf
@@ -59,4 +62,5 @@ computed = record {
     not-bought-back = refl;
     richer = refl;
   };
+  raised = record { no-own-rows = refl; without = refl; with-own = refl };
 }

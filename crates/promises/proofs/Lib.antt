@@ -11,3 +11,4 @@ pub mod PositiveMove
 pub mod Deposit
 pub mod Needed
 pub mod OneFigure
+pub mod OwnRows

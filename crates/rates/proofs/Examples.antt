@@ -1,5 +1,6 @@
--- Document 01 by computation: row A keeps its rules and passes the cover test; one number that breaks its rule is the number that is named, for
--- each rule of the table; and what the check answers of whole tables.
+-- Documents 01 and 02 by computation: row A keeps its rules and passes the cover test; one number that breaks its rule is the number that is named, for
+-- each rule of the table; one number of an own row that is laxer than row A's is named, for each rule of #103, and a stricter one is not; and what the
+-- check answers of whole tables.
 -- Assumes nothing.
 use mathlib.Core.Path.{_≡_, refl}
 use mathlib.Core.Bool.{true, false}
@@ -10,14 +11,15 @@ use lib.ListN.{drop, replicate, set}
 use Rattle.whole.specs.Numbers.{maxℤ}
 use Rattle.whole.specs.Bounds.{between}
 use Rattle.whole.specs.Parts.{part}
-use Rattle.whole.specs.Marks.{firstFalse, allTrue, allZero, pieces}
+use Rattle.whole.specs.Marks.{firstFalse, placeFrom, allTrue, allZero, pieces}
 use Rattle.whole.specs.Refusals.{firstCode}
 use Rattle.rates.specs.Units.{rowLength}
 use Rattle.rates.specs.Row.{highestRate}
 use Rattle.rates.specs.RowA.{less, rowA}
 use Rattle.rates.specs.Rules.{termMarks, rateMarks, limitMarks, dateMarks, listedMarks, rowMarks}
+use Rattle.rates.specs.Stricter.{stricterTerms, stricterRates, stricterLimits, stricterDate, stricterRow}
 use Rattle.rates.specs.Lent.{Tables}
-use Rattle.rates.specs.Tables.{ownKindRight, ownRowMarks, clearingMarks, ownMarks, tableMarks, lengthsRight, soundTables, checkCode, checkPlace, checked}
+use Rattle.rates.specs.Tables.{ownKindRight, ownRowMarks, clearingMarks, ownMarks, tableMarks, stricterOwnRow, stricterAt, lengthsRight, soundTables, onlyStricter, checkCode, checkPlace, checked}
 use Rattle.rates.specs.InForce.{outerWidth, coverTest, soundRow}
 use Rattle.rates.specs.declared.tables.Checked.{Checked}
 
@@ -82,6 +84,38 @@ cover-tests : map coverTest (rowA ∷ rowWith 8 (pos 9700) ∷ rowWith 8 (pos 98
 unfolding between maxℤ highestRate outerWidth coverTest
 cover-tests = refl
 
+-- ---- own rows over row A, one number changed: the first laxer number, 64 where none is
+abbrev laxerIn : Change → ℕ
+laxerIn c = firstFalse (stricterRow (set (c .row) (c .at) (c .put)) (c .row))
+
+-- laxer by one: what must be equal is greater or smaller; of the dates the first and the last. Where row A's number could not be laxer and sound, a row
+-- that has another: pool share 9,000, special delivery set
+abbrev laxer : List Change
+laxer =
+    inA 1 (pos 9999) ∷ inA 1 (pos 10001)
+    ∷ inA 2 (pos 5001) ∷ record { row = rowWith 3 (pos 9000); at = 3; put = pos 9001 }
+    ∷ inA 4 (pos 1) ∷ record { row = rowWith 4 (pos 2); at = 4; put = pos 1 } ∷ record { row = rowWith 5 (pos 1); at = 5; put = pos 0 }
+    ∷ inA 6 (pos 1999) ∷ inA 7 (pos 2999) ∷ inA 8 (pos 3999) ∷ inA 9 (pos 4999)
+    ∷ inA 10 (pos 101) ∷ inA 11 (pos 101) ∷ inA 12 (pos 0) ∷ inA 12 (pos 2)
+    ∷ inA 16 (less 1) ∷ inA 16 (pos 1) ∷ inA 17 (less 99) ∷ inA 18 (pos 199) ∷ inA 19 (less 199) ∷ inA 20 (pos 299)
+    ∷ inA 51 (less 1) ∷ inA 51 (pos 1) ∷ inA 52 (less 99) ∷ inA 53 (pos 199) ∷ inA 54 (less 199) ∷ inA 55 (pos 299)
+    ∷ []
+
+laxer-number-named : map laxerIn laxer ≡ map (λ (c : Change). c .at) laxer
+unfolding firstFalse pieces between stricterTerms stricterRates stricterLimits stricterDate stricterRow
+laxer-number-named = refl
+
+-- equal, and stricter by one
+abbrev stricter : List Change
+stricter =
+    inA 1 (pos 10000) ∷ inA 2 (pos 4999) ∷ inA 3 (pos 9999) ∷ inA 5 (pos 1) ∷ inA 6 (pos 2001) ∷ inA 7 (pos 3001) ∷ inA 8 (pos 4001) ∷ inA 9 (pos 5001)
+    ∷ inA 10 (pos 99) ∷ inA 11 (pos 99) ∷ inA 17 (less 101) ∷ inA 18 (pos 201) ∷ inA 19 (less 201) ∷ inA 20 (pos 301)
+    ∷ inA 52 (less 101) ∷ inA 53 (pos 201) ∷ inA 54 (less 201) ∷ inA 55 (pos 301) ∷ []
+
+stricter-passed : map laxerIn stricter ≡ map (λ (c : Change). rowLength) stricter
+unfolding firstFalse pieces between stricterTerms stricterRates stricterLimits stricterDate stricterRow
+stricter-passed = refl
+
 -- ---- whole tables, with one row at asset 1
 abbrev table : List ℤ → List ℤ
 table row = unlistedRow ++ row ++ replicate 896 (pos 0)
@@ -97,11 +131,19 @@ abbrev lent : List ℤ → List ℤ → List ℤ → ℕ → ℕ → Call
 lent clearing own groups code place =
     record { tables = record { clearing = table clearing; own = table own; groups = groups }; answer = record { code = code; place = place } }
 
--- sound; a broken number of the clearing row, before one of the own row; one of the own row; an own row of another kind, one of kind 0, one over an
--- unlisted row, and one of kind 0 there; percents of 51 and −1; a number too few in each of the three
+-- sound without an own row, with an equal and with a stricter one; "a share of 9,000 over 5,000", and another price; two laxer numbers; a broken number
+-- behind a laxer one, and a percent; a broken number of the clearing row, before one of the own row; one of the own row; an own row of another kind, one
+-- of kind 0, one over an unlisted row, and one of kind 0 there; percents of 51 and −1; a number too few in each of the three
 abbrev calls : List Call
 calls =
-    lent rowA (rowWith 1 (pos 9000)) percents 0 0
+    lent rowA unlistedRow percents 0 0
+    ∷ lent rowA rowA percents 0 0
+    ∷ lent rowA (rowWith 2 (pos 4999)) percents 0 0
+    ∷ lent rowA (rowWith 2 (pos 9000)) percents 13 1090
+    ∷ lent rowA (rowWith 1 (pos 9000)) percents 13 1089
+    ∷ lent rowA (set (rowWith 55 (pos 299)) 6 (pos 1999)) percents 13 1094
+    ∷ lent rowA (set (rowWith 2 (pos 9000)) 63 (pos 1)) percents 2 1151
+    ∷ lent rowA (rowWith 2 (pos 9000)) (set percents 7 (pos 51)) 2 2055
     ∷ lent (rowWith 8 (pos 1999)) (rowWith 63 (pos 1)) percents 2 72
     ∷ lent rowA (rowWith 63 (pos 1)) percents 2 1151
     ∷ lent rowA (rowWith 0 (pos 2)) percents 2 1088
@@ -116,5 +158,5 @@ calls =
     ∷ []
 
 answers : map (λ (c : Call). checked (c .tables)) calls ≡ map (λ (c : Call). c .answer) calls
-unfolding firstFalse allTrue allZero pieces between part firstCode termMarks rateMarks limitMarks dateMarks listedMarks rowMarks ownKindRight ownRowMarks clearingMarks ownMarks tableMarks lengthsRight soundTables checkCode checkPlace checked
+unfolding firstFalse allTrue allZero pieces between part firstCode termMarks rateMarks limitMarks dateMarks listedMarks rowMarks ownKindRight ownRowMarks clearingMarks ownMarks tableMarks lengthsRight soundTables placeFrom stricterTerms stricterRates stricterLimits stricterDate stricterRow stricterOwnRow stricterAt onlyStricter checkCode checkPlace checked
 answers = refl

@@ -6,4 +6,5 @@ pub mod Ranges
 pub mod CoverTest
 pub mod Lookup
 pub mod Sound
+pub mod OnlyStricter
 pub mod Examples

@@ -1,20 +1,21 @@
--- Document 01, "Units and sizes": the clearing table, the own table and the groups, and the table check: which of their 2,056 numbers is the
--- first to break its rule.
+-- Document 01, "Units and sizes", and document 02, #103: the clearing table, the own table and the groups, and the table check: which of their 2,056
+-- numbers is the first to break its rule; where none does, which of the own table's is the first that is laxer than the clearing table's.
 -- Assumes nothing.
 use mathlib.Core.Path.{_≡_}
 use mathlib.Core.Bool.{Bool, true, false, not, cond, _&&_}
 use mathlib.Core.List.{List, [], _∷_, _++_, map}
-use Prim.Native.Nat.{ℕ, _-_, _*_, _<_}
+use Prim.Native.Nat.{ℕ, _+_, _-_, _*_, _<_}
 use lib.IntN.{ℤ, pos}
 use lib.ListN.{length, getD, replicate}
 use lib.Dec.{eqb, ltb}
 use Rattle.whole.specs.Bounds.{between, equal}
 use Rattle.whole.specs.Parts.{part}
-use Rattle.whole.specs.Marks.{firstFalse, allTrue, allZero, pieces}
-use Rattle.whole.specs.Refusals.{Refusal, _gives_, firstCode, wrongLength, brokenNumber}
+use Rattle.whole.specs.Marks.{firstFalse, placeFrom, allTrue, allZero, pieces}
+use Rattle.whole.specs.Refusals.{Refusal, _gives_, firstCode, wrongLength, brokenNumber, laxerOwnRow}
 use Rattle.rates.specs.Units.{assets, rowLength, tableLength, groupCount}
 use Rattle.rates.specs.Row.{kind, unlisted}
 use Rattle.rates.specs.Rules.{rowMarks}
+use Rattle.rates.specs.Stricter.{stricterRow, Stricter}
 use Rattle.rates.specs.Lent.{Tables}
 use Rattle.rates.specs.declared.tables.Checked.{Checked}
 
@@ -63,21 +64,45 @@ lengthsRight tables =
 unfoldable pub soundTables : Tables → Bool
 soundTables tables = allTrue (tableMarks tables)
 
--- for what tables of the right lengths are refused, by the table check and by every call that is lent them
-abbrev pub tableRefusals : Tables → List Refusal
-tableRefusals tables = not (soundTables tables) gives brokenNumber ∷ []
+-- the own table's part of that
+abbrev pub soundOwn : List ℤ → List ℤ → Bool
+soundOwn clearing own = allTrue (pieces (ownMarks clearing own) 0 assets)
 
--- the answer of the table check: its refusals in their order, and the place of the first broken number where there is one
+-- #103: a present own row is only stricter; an absent one is not compared
+unfoldable pub stricterOwnRow : List ℤ → List ℤ → List Bool
+stricterOwnRow own clearing = cond (absent own) (replicate rowLength true) (stricterRow own clearing)
+
+unfoldable pub stricterAt : List ℤ → List ℤ → ℕ → List Bool
+stricterAt clearing own a = stricterOwnRow (rowOf own a) (rowOf clearing a)
+
+-- every number of the own table in the order of its place, 1024 to 2047
+abbrev pub stricterMarks : Tables → List Bool
+stricterMarks tables = pieces (stricterAt (tables .clearing) (tables .own)) 0 assets
+
+unfoldable pub onlyStricter : Tables → Bool
+onlyStricter tables = allTrue (stricterMarks tables)
+
+-- for what tables of the right lengths are refused, by the table check and by every call that is lent them: a broken number anywhere comes first
+abbrev pub tableRefusals : Tables → List Refusal
+tableRefusals tables =
+    not (soundTables tables) gives brokenNumber
+    ∷ not (onlyStricter tables) gives laxerOwnRow
+    ∷ []
+
+-- the answer of the table check: its refusals in their order, and the place of the first broken number, or of the first laxer one
 unfoldable pub checkCode : Tables → ℕ
 checkCode tables = firstCode (not (lengthsRight tables) gives wrongLength ∷ tableRefusals tables)
 
 unfoldable pub checkPlace : Tables → ℕ
-checkPlace tables = cond (eqb (checkCode tables) brokenNumber) (firstFalse (tableMarks tables)) 0
+checkPlace tables =
+    cond (eqb (checkCode tables) brokenNumber) (firstFalse (tableMarks tables))
+    (cond (eqb (checkCode tables) laxerOwnRow) (placeFrom tableLength (stricterMarks tables)) 0)
 
 unfoldable pub checked : Tables → Checked
 checked tables = record { code = checkCode tables; place = checkPlace tables }
 
--- the statement that the place it names is the first broken one, which proofs/Answer proves: the mark there is false, and each before it is true
+-- ---- statements, which proofs/Answer and proofs/OnlyStricter prove
+-- the place is that of the first number that breaks its rule: the mark there is false, and each before it is true
 pub record FirstBroken (marks : List Bool) (place : ℕ) : Type 0 where
   pub inside : place < length marks
   pub broken : getD marks place true ≡ false
@@ -85,3 +110,23 @@ pub record FirstBroken (marks : List Bool) (place : ℕ) : Type 0 where
 
 abbrev pub PlaceIsFirst : Type 0
 PlaceIsFirst = (tables : Tables) → checkCode tables ≡ brokenNumber → FirstBroken (tableMarks tables) (checkPlace tables)
+
+-- code 13: the lengths are right, no number is broken, and the place is that of the own table's first laxer number
+pub record Laxer (tables : Tables) : Type 0 where
+  pub lengths : lengthsRight tables ≡ true
+  pub none-broken : soundTables tables ≡ true
+  pub at : ℕ
+  pub place-is : checkPlace tables ≡ tableLength + at
+  pub first : FirstBroken (stricterMarks tables) at
+
+abbrev pub LaxerIsFirst : Type 0
+LaxerIsFirst = (tables : Tables) → checkCode tables ≡ laxerOwnRow → Laxer tables
+
+-- each present own row is stricter than its clearing row, by name
+abbrev pub OnlyStricter : Tables → Type 0
+OnlyStricter tables = (a : ℕ) → a < assets → absent (rowOf (tables .own) a) ≡ false → Stricter (rowOf (tables .own) a) (rowOf (tables .clearing) a)
+
+-- code 0 says so; and back, sound tables of which that holds answer 0, so that the marks ask for nothing else
+pub record StricterPasses : Type 0 where
+  pub says : (tables : Tables) → checkCode tables ≡ 0 → OnlyStricter tables
+  pub asks-no-more : (tables : Tables) → lengthsRight tables ≡ true → soundTables tables ≡ true → OnlyStricter tables → checkCode tables ≡ 0

@@ -26,13 +26,13 @@ const SPARE_2: usize = in_row::SPARE + 1;
 
 const SPARE_3: usize = in_row::SPARE + 2;
 
-const FALL: usize = in_row::BASE_RATES + in_row::FALL;
+pub(crate) const FALL: usize = in_row::BASE_RATES + in_row::FALL;
 
-const RISE: usize = in_row::BASE_RATES + in_row::RISE;
+pub(crate) const RISE: usize = in_row::BASE_RATES + in_row::RISE;
 
-const RAISED_FALL: usize = in_row::RAISED_RATES + in_row::FALL;
+pub(crate) const RAISED_FALL: usize = in_row::RAISED_RATES + in_row::FALL;
 
-const RAISED_RISE: usize = in_row::RAISED_RATES + in_row::RISE;
+pub(crate) const RAISED_RISE: usize = in_row::RAISED_RATES + in_row::RISE;
 
 // Whether a row is not there: all its numbers are zero. A sound row that is there has a kind, so its first number is asked before the others. Here and
 // below zeros are looked for in a part whose length is written out, since the compiler then takes several together.

@@ -1,11 +1,13 @@
 ghost use mathlib.Core.Path.{_≡_};
+ghost use mathlib.Core.Bool.{true};
 ghost use lib.ListN.{length};
-ghost use Rattle.whole.specs.Marks.{firstFalse, placeFrom, pieces};
+ghost use Rattle.whole.specs.Marks.{firstFalse, placeFrom, allTrue, pieces};
 ghost use Rattle.rates.specs.Units.{assets, rowLength, tableLength, groupCount};
 ghost use Rattle.rates.specs.Lent.{given};
-ghost use Rattle.rates.specs.Tables.{ownKindRight, ownRowMarks, clearingMarks, ownMarks, tableMarks, checked};
+ghost use Rattle.rates.specs.Tables.{ownKindRight, ownRowMarks, clearingMarks, ownMarks, tableMarks, soundOwn, stricterOwnRow, stricterAt, lengthsRight, checked};
 use crate::in_row;
 use crate::row;
+use crate::stricter;
 use crate::units;
 use crate::units::GROUPS;
 use crate::units::OWN;
@@ -13,9 +15,9 @@ use crate::units::PLACES;
 use whole::codes;
 
 // The table check: the clearing table row by row, then the own table, each own row beside its clearing row, then the groups. It ends at the first row or
-// percent that breaks a rule.
+// percent that breaks a rule. Where none does, each own row that is present is compared with its clearing row, up to the first that is laxer.
 
-// What the table check answers: its code, and with code 2 the place of the first broken number.
+// What the table check answers: its code, with code 2 the place of the first broken number, and with code 13 that of the first laxer one.
 pub struct Checked {
     pub code: u8,
     pub place: usize,
@@ -99,33 +101,72 @@ fn broken_place(clearing: &[i64], own: &[i64], groups: &[i64]) -> usize
     GROUPS + whole::first_outside(groups, 0, units::MOST_PERCENT)
 }
 
-// The table check: 1 for a wrong length, 2 with the place of the first broken number, else 0.
+// The first laxer number of an own row that keeps its rules, or 64. Such a row is absent exactly where it has no kind, so one number is asked.
+fn laxer_own_row(own: &[i64], clearing: &[i64]) -> usize
+    requires { ⌜ (length (now own) ≡ rowLength) × (length (now clearing) ≡ rowLength) × (allTrue (ownRowMarks (now own) (now clearing)) ≡ true) ⌝ }
+    ensures { λ r. ⌜ r ≡ firstFalse (stricterOwnRow (now (own .entry)) (now (clearing .entry))) ⌝ }
+{
+    if whole::number_is(own, in_row::KIND, 0) {
+        return in_row::LENGTH;
+    }
+    stricter::laxer_number(own, clearing)
+}
+
+// The first laxer place of an own table whose rows keep their rules, or the place past it.
+fn laxer_own(clearing: &[i64], own: &[i64]) -> usize
+    requires { ⌜ (length (now clearing) ≡ tableLength) × (length (now own) ≡ tableLength) × (soundOwn (now clearing) (now own) ≡ true) ⌝ }
+    ensures { λ r. ⌜ r ≡ placeFrom tableLength (pieces (stricterAt (now (clearing .entry)) (now (own .entry))) 0 assets) ⌝ }
+{
+    let mut a = 0;
+    while a < units::ASSET_COUNT {
+        let at = in_row::LENGTH * a;
+        let laxer = laxer_own_row(
+            &own[at..at + in_row::LENGTH],
+            &clearing[at..at + in_row::LENGTH],
+        );
+        if laxer < in_row::LENGTH {
+            return OWN + at + laxer;
+        }
+        a += 1;
+    }
+    GROUPS
+}
+
+// Whether tables and groups have their lengths.
+fn lengths_right(clearing: &[i64], own: &[i64], groups: &[i64]) -> bool
+    ensures { λ r. ⌜ r ≡ lengthsRight (given clearing own groups) ⌝ }
+{
+    if clearing.len() != units::TABLE_LENGTH {
+        return false;
+    }
+    if own.len() != units::TABLE_LENGTH {
+        return false;
+    }
+    groups.len() == units::GROUP_COUNT
+}
+
+// The table check: 1 for a wrong length, 2 with the place of the first broken number, 13 with that of the first laxer one, else 0.
 pub fn check_tables(clearing: &[i64], own: &[i64], groups: &[i64]) -> Checked
     ensures { λ r. ⌜ r ≡ checked (given clearing own groups) ⌝ }
 {
-    if clearing.len() != units::TABLE_LENGTH {
+    if !lengths_right(clearing, own, groups) {
         return Checked {
             code: codes::WRONG_LENGTH,
             place: 0,
         };
     }
-    if own.len() != units::TABLE_LENGTH {
-        return Checked {
-            code: codes::WRONG_LENGTH,
-            place: 0,
-        };
-    }
-    if groups.len() != units::GROUP_COUNT {
-        return Checked {
-            code: codes::WRONG_LENGTH,
-            place: 0,
-        };
-    }
-    let place = broken_place(clearing, own, groups);
-    if place < PLACES {
+    let broken = broken_place(clearing, own, groups);
+    if broken < PLACES {
         return Checked {
             code: codes::BROKEN_NUMBER,
-            place: place,
+            place: broken,
+        };
+    }
+    let laxer = laxer_own(clearing, own);
+    if laxer < GROUPS {
+        return Checked {
+            code: codes::LAXER_OWN_ROW,
+            place: laxer,
         };
     }
     Checked {

@@ -165,6 +165,18 @@ all-piece f i (suc n) d p q e =
     (λ h. all-piece f (suc i) n d h (omega arith) (all-right (f i) (pieces f (suc i) n) e))
     (eq-or-lt-of-le p)
 
+-- and back, of one list after another and of pieces
+pub all-both : (a b : List Bool) → allTrue a ≡ true → allTrue b ≡ true → allTrue (a ++ b) ≡ true
+unfolding allTrue
+all-both [] b e f = f
+all-both (true ∷ a) b e f = all-both a b e f
+all-both (false ∷ a) b e f = true-not-false e
+
+pub all-pieces : (f : ℕ → List Bool) (i n : ℕ) → ((d : ℕ) → d < i + n → allTrue (f d) ≡ true) → allTrue (pieces f i n) ≡ true
+unfolding pieces allTrue
+all-pieces f i zero h = refl
+all-pieces f i (suc n) h = all-both (f i) (pieces f (suc i) n) (h i (omega arith)) (all-pieces f (suc i) n (λ d l. h d (omega arith)))
+
 -- of marks made number by number
 pub all-numbers : {A : Type 0} (f : A → Bool) (s : List A) (z : A) → f z ≡ true → allTrue (map f s) ≡ true → (k : ℕ) → f (getD s k z) ≡ true
 unfolding allTrue

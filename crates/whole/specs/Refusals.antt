@@ -19,7 +19,7 @@ firstCode (test gives code ∷ rs) = cond test code (firstCode rs)
 unfoldable pub leaves : {A : Type 0} → ℕ → A → A → A
 leaves code new old = cond (eqb code 0) new old
 
--- ---- the codes of document 01's table, in its order
+-- ---- the codes of document 01's table, in its order, with those of document 02 at their places
 -- a lent length is wrong
 abbrev pub wrongLength : ℕ
 wrongLength = 1
@@ -27,6 +27,10 @@ wrongLength = 1
 -- the table check finds a broken number
 abbrev pub brokenNumber : ℕ
 brokenNumber = 2
+
+-- the table check finds an own row that is laxer than its clearing row (document 02, #103)
+abbrev pub laxerOwnRow : ℕ
+laxerOwnRow = 13
 
 -- account number not 0 to 15
 abbrev pub noAccount : ℕ

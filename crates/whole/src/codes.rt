@@ -1,4 +1,4 @@
-// The codes of document 01's table, "Calls and turning away", by name. specs/Refusals says them again for the definitions.
+// The codes of document 01's table, "Calls and turning away", and of document 02, by name. specs/Refusals says them again for the definitions.
 
 pub const DONE: u8 = 0;
 
@@ -32,3 +32,6 @@ pub const NEGATIVE_LIMIT: u8 = 10;
 
 // A session line of no form.
 pub const MALFORMED: u8 = 12;
+
+// The table check finds an own row that is laxer than its clearing row.
+pub const LAXER_OWN_ROW: u8 = 13;

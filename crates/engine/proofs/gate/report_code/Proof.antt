@@ -1,4 +1,4 @@
--- `gate::report_code` meets its contract: codes 1, 2 and 3, then 6 and 4 of the account that is there. Assumes nothing.
+-- `gate::report_code` meets its contract: codes 1, 2, 13 and 3, then 6 and 4 of the account that is there. Assumes nothing.
 use mathlib.Core.Path.{sym, _∙_}
 use mathlib.Core.List.{List}
 use borrow.Author.Needs.{needs}

@@ -1,35 +1,51 @@
--- `rates::tables::check_tables` meets its contract: a wrong length is refused first; then the place of the first broken number is past the last one, or not.
+-- `rates::tables::check_tables` meets its contract: a wrong length is refused first; then the place of the first broken number is past the last one, or not;
+-- and then that of the first laxer one.
 -- Assumes nothing.
+use mathlib.Core.Path.{_≡_}
+use mathlib.Core.Bool.{true}
 use borrow.Author.Needs.{needs}
-use borrow.Author.Tests.{ne-eqb}
+use Rattle.whole.proofs.Tests.{left, taken}
+use Rattle.rates.specs.Lent.{lent}
 use Rattle.rates.specs.Tables.{lengthsRight}
-use Rattle.whole.proofs.Tests.{tests}
-use Rattle.rates.proofs.Answer.{answers-1, answers-2, answers-0}
+use Rattle.rates.proofs.Counts.{long-clearing, long-own, long-groups}
+use Rattle.rates.proofs.Answer.{answers-1, answers-2, answers-13, answers-0, sound}
+use Rattle.rates.proofs.Sound.{own-table-right}
 use Rattle.rates.proofs.tables.check_tables.Statement.{statement}
 use Rattle.rates.proofs.tables.check_tables.Tie as tie
 
 returns : tie.Need-returns
-unfolding lengthsRight
-returns c = let e = ne-eqb _ _ (c .if1 .taken) in answers-1 _ (search tests)
+returns c = answers-1 _ (taken (c .before .lengths-right .ensures) (c .if1 .taken))
+
+right : (c : tie.Else1) → let a = c .before .before .args in lengthsRight (lent (a .clearing) (a .own) (a .groups)) ≡ true
+right c = left (c .before .lengths-right .ensures) (c .if1 .left)
 
 returns-2 : tie.Need-returns-2
-unfolding lengthsRight
-returns-2 c = let e = ne-eqb _ _ (c .if2 .taken) in answers-1 _ (search tests)
+returns-2 c = answers-2 _ (right (c .before .before)) (c .before .broken-place .ensures) (c .if2 .taken)
+
+-- the own table keeps its rules where no place is broken
+own-right : tie.Need-laxer-own-requires
+own-right c κs =
+    let r = right (c .before .before) in
+    (long-clearing _ r, long-own _ r, own-table-right _ (sound _ r (c .before .broken-place .ensures) (c .if2 .left)))
 
 returns-3 : tie.Need-returns-3
-unfolding lengthsRight
-returns-3 c = let e = ne-eqb _ _ (c .if3 .taken) in answers-1 _ (search tests)
+returns-3 c =
+    let e = c .before .before in
+    answers-13 _ (right (e .before .before)) (e .before .broken-place .ensures) (e .if2 .left) (c .before .laxer-own .ensures) (c .if3 .taken)
 
 returns-4 : tie.Need-returns-4
 returns-4 c =
-    let g = c .before .before in
-    answers-2 _ (g .before .before .if1 .left) (g .before .if2 .left) (g .if3 .left) _ (c .before .broken-place .ensures) (c .if4 .taken)
-
-returns-5 : tie.Need-returns-5
-returns-5 c =
-    let g = c .before .before in
-    answers-0 _ (g .before .before .if1 .left) (g .before .if2 .left) (g .if3 .left) _ (c .before .broken-place .ensures) (c .if4 .left)
+    let e = c .before .before in
+    answers-0 _ (right (e .before .before)) (e .before .broken-place .ensures) (e .if2 .left) (c .before .laxer-own .ensures) (c .if3 .left)
 
 pub check-tables-spec : {M : Type 1} → statement M
 check-tables-spec =
-    tie.close (tie.spec returns returns-2 returns-3 (λ c κs. search needs) returns-4 returns-5)
+    tie.close
+    (tie.spec
+    (λ c κs. search needs)
+    returns
+    (λ c κs. let r = right c in (long-clearing _ r, long-own _ r, long-groups _ r))
+    returns-2
+    own-right
+    returns-3
+    returns-4)
