@@ -2,7 +2,7 @@
  *
  * Every call takes any numbers and any lengths and answers a code. A refusal writes nothing, but for this: a refused report and a refused reading
  * back write five zeros (unless the length of `figures` itself is wrong), a refused feed writes the empty gauge and a zero and leaves `bits` as
- * they were, and a refused check of tables writes its place, which is 0 unless the code is 2.
+ * they were, and a refused check of tables writes its place, which is 0 unless the code is 2 or 13.
  *
  * What the caller keeps, since no call can look for it:
  *   - a pointer is not null, is aligned for its type, and is good for as many numbers as its length says;
@@ -25,7 +25,7 @@ extern "C" {
 #endif
 
 /* The version of this face: the first number changes where a program must, the second where an answer does or a call is added. */
-#define SINGLE_LIMIT_VERSION "1.2.0"
+#define SINGLE_LIMIT_VERSION "2.0.0"
 
 /* Accounts 0 to 15, assets 0 to 15, dates 0 to 7 (date 0 is T0), groups 1 to 8. */
 #define SINGLE_LIMIT_ACCOUNTS 16
@@ -71,7 +71,9 @@ extern "C" {
  * A row with a kind and a price alone is sound and has no risk: a rate of 0 is a rate like any other, not one that is missing. The table check
  * cannot tell a row that was half filled from one that is meant so; whoever fills rows must.
  *
- * An own row of zeros is absent; else it has the kind of the listed clearing row and is in force in its place. */
+ * An own row of zeros is absent; else it has the kind of the listed clearing row and is in force in its place. It may only be stricter: the clearing
+ * row's price, mids, covered sales and group; shares and concentration limits no greater; rates no smaller; lows and outer lows no higher, ups and
+ * outer ups no lower; special delivery kept where set. Where one of its numbers is laxer the tables are refused with 13. */
 #define SINGLE_LIMIT_ROW_KIND 0
 #define SINGLE_LIMIT_ROW_PRICE 1
 #define SINGLE_LIMIT_ROW_ACCEPTANCE_SHARE 2
@@ -155,8 +157,8 @@ extern "C" {
 #define SINGLE_LIMIT_GAUGE_OVER 1
 #define SINGLE_LIMIT_GAUGE_USED 2
 
-/* Codes, by number; single_limit_words says each in words. They are looked for in the order 1, 2, 3, 6, 4, 5, 7, 8, 9, 10, and the first that
- * applies is answered: a broken block is found before it is asked whether the account is open. */
+/* Codes, by number; single_limit_words says each in words. They are looked for in the order 1, 2, 13, 3, 6, 4, 5, 7, 8, 9, 10, and the first
+ * that applies is answered: a broken block is found before it is asked whether the account is open. */
 #define SINGLE_LIMIT_DONE 0
 #define SINGLE_LIMIT_REFUSED_WRONG_LENGTH 1
 #define SINGLE_LIMIT_REFUSED_BROKEN_NUMBER 2
@@ -168,6 +170,7 @@ extern "C" {
 #define SINGLE_LIMIT_REFUSED_WRONG_AMOUNT 8
 #define SINGLE_LIMIT_REFUSED_OUT_OF_BOUNDS 9
 #define SINGLE_LIMIT_REFUSED_NEGATIVE_LIMIT 10
+#define SINGLE_LIMIT_REFUSED_LAXER_OWN_ROW 13
 
 /* A code in words. */
 static inline const char *single_limit_words(uint8_t code) {
@@ -189,6 +192,7 @@ static inline const char *single_limit_words(uint8_t code) {
         return "a number would leave its bounds, or a withdrawal would leave collateral below 0; a NaN's pattern read back";
     case SINGLE_LIMIT_REFUSED_NEGATIVE_LIMIT:
         return "limit after a withdrawal would be negative, or after an order negative and not raised by it";
+    case SINGLE_LIMIT_REFUSED_LAXER_OWN_ROW: return "the table check finds an own row that is laxer than its clearing row";
     default: return "not a code of the engine";
     }
 }
@@ -222,7 +226,8 @@ static inline size_t single_limit_obligation_at(size_t account, size_t asset, si
     return single_limit_collateral_at(account, asset) + SINGLE_LIMIT_HOLDING_OBLIGATIONS + date;
 }
 
-/* Are the tables sound? With code 2, *place is the place of the first broken number (SINGLE_LIMIT_PLACE_...), else 0. */
+/* Are the tables sound, and own rows only stricter? With code 2, *place is the place of the first broken number (SINGLE_LIMIT_PLACE_...), with code
+ * 13 that of the first laxer number of the own table, else 0. */
 uint8_t single_limit_check_tables(const int64_t *clearing, size_t clearing_length, const int64_t *own, size_t own_length,
                                   const int64_t *groups, size_t groups_length, uint64_t *place);
 

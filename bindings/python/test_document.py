@@ -111,6 +111,16 @@ class Document(unittest.TestCase):
             tables.groups = array("q", length * [0])
             self.refused(Code.WRONG_LENGTH, book.report, tables, 0)
 
+    def test_an_own_row_may_only_be_stricter(self):
+        book, tables = start()
+        tables.own[:ROW_LENGTH] = tables.clearing[:ROW_LENGTH]
+        tables.check()
+        tables.own[ROW_ACCEPTANCE_SHARE] = 9_000
+        self.assertEqual(self.refused(Code.LAXER_OWN_ROW, tables.check).place, PLACE_OWN + ROW_ACCEPTANCE_SHARE)
+        self.refused(Code.LAXER_OWN_ROW, book.report, tables, 16)
+        tables.groups[7] = 51
+        self.refused(Code.BROKEN_NUMBER, book.report, tables, 16)
+
     def test_numbers_of_64_bits(self):
         """Nothing is cut to fit: 2^64 is not account 0."""
         book, tables = start()

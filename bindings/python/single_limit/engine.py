@@ -38,7 +38,7 @@ class Tables:
         return lent(self.clearing, self.own, self.groups)
 
     def check(self):
-        """Are they sound? If not, the place of the first broken number comes with the refusal."""
+        """Are they sound, and own rows only stricter? If not, the place of the first number that is not comes with the refusal."""
         place = ctypes.c_uint64()
         passed(call("check_tables", *self.lent(), ctypes.byref(place)), place.value)
 

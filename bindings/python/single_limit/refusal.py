@@ -4,7 +4,7 @@ from enum import IntEnum
 
 
 class Code(IntEnum):
-    """The codes of a refusal, by the header's names. They are looked for in the order 1, 2, 3, 6, 4, 5, 7, 8, 9, 10."""
+    """The codes of a refusal, by the header's names. They are looked for in the order 1, 2, 13, 3, 6, 4, 5, 7, 8, 9, 10."""
 
     WRONG_LENGTH = 1
     BROKEN_NUMBER = 2
@@ -16,6 +16,7 @@ class Code(IntEnum):
     WRONG_AMOUNT = 8
     OUT_OF_BOUNDS = 9
     NEGATIVE_LIMIT = 10
+    LAXER_OWN_ROW = 13
 
 
 WORDS = {
@@ -31,12 +32,13 @@ WORDS = {
     "move 0, or beyond 10^6 either way (10^14 for rubles)",
     Code.OUT_OF_BOUNDS: "a number would leave its bounds, or a withdrawal would leave collateral below 0; a NaN's pattern read back",
     Code.NEGATIVE_LIMIT: "limit after a withdrawal would be negative, or after an order negative and not raised by it",
+    Code.LAXER_OWN_ROW: "the table check finds an own row that is laxer than its clearing row",
 }
 
 
 class Refused(Exception):
     """A call was turned away and nothing was altered. `code` says why; `place` is that of the first broken number where Tables.check
-    answered BROKEN_NUMBER, else 0."""
+    answered BROKEN_NUMBER, of the first laxer one where it answered LAXER_OWN_ROW, else 0."""
 
     def __init__(self, code, place=0):
         self.code = Code(code)

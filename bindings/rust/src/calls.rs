@@ -49,7 +49,7 @@ pub struct Figures {
     pub limit: i64,
 }
 
-/// Are the tables sound?
+/// Are the tables sound, and own rows only stricter?
 pub fn check_tables(lent: Lent<'_>) -> Result<(), Unsound> {
     let Lent { clearing, own, groups } = lent;
     let mut place = 0;

@@ -3,9 +3,11 @@
 use std::error::Error;
 use std::fmt;
 
-/// A code other than 0, by name; shown in the header's words. They are looked for in the order 1, 2, 3, 6, 4, 5, 7, 8, 9, 10.
+/// A code other than 0, by name; shown in the header's words. They are looked for in the order 1, 2, 13, 3, 6, 4, 5, 7, 8, 9,
+/// 10. Later versions may have more, so a match over them has an arm for others.
 #[derive(Clone, Copy, Debug, PartialEq, Eq, Hash)]
 #[repr(u8)]
+#[non_exhaustive]
 pub enum Refusal {
     /// A lent length is wrong. A `Book` and `Tables` never have one.
     WrongLength = 1,
@@ -27,11 +29,13 @@ pub enum Refusal {
     OutOfBounds = 9,
     /// The limit after a withdrawal would be negative, or after an order negative and not raised by it.
     NegativeLimit = 10,
+    /// The table check finds an own row that is laxer than its clearing row.
+    LaxerOwnRow = 13,
 }
 
 impl Refusal {
     /// Every refusal, by rising code.
-    pub const ALL: [Refusal; 10] = [
+    pub const ALL: &'static [Refusal] = &[
         Refusal::WrongLength,
         Refusal::BrokenNumber,
         Refusal::NoAccount,
@@ -42,9 +46,10 @@ impl Refusal {
         Refusal::WrongAmount,
         Refusal::OutOfBounds,
         Refusal::NegativeLimit,
+        Refusal::LaxerOwnRow,
     ];
 
-    /// The code of document 01.
+    /// The code of documents 01 and 02.
     pub fn code(self) -> u8 {
         self as u8
     }
@@ -73,6 +78,7 @@ impl Refusal {
             Refusal::NegativeLimit => {
                 "limit after a withdrawal would be negative, or after an order negative and not raised by it"
             }
+            Refusal::LaxerOwnRow => "the table check finds an own row that is laxer than its clearing row",
         }
     }
 }
@@ -85,28 +91,31 @@ impl fmt::Display for Refusal {
 
 impl Error for Refusal {}
 
-/// What a code says. The engine's contracts leave no code above 10, so another one means an archive of another version.
+/// What a code says. The engine's contracts leave no other code, so another one means an archive of another version.
 pub(crate) fn answer(code: u8) -> Result<(), Refusal> {
-    match code {
-        0 => Ok(()),
-        1..=10 => Err(Refusal::ALL[code as usize - 1]),
-        _ => panic!("code {code} is not of this version of the engine"),
+    if code == 0 {
+        return Ok(());
+    }
+    match Refusal::ALL.iter().find(|refusal| refusal.code() == code) {
+        Some(&refusal) => Err(refusal),
+        None => panic!("code {code} is not of this version of the engine"),
     }
 }
 
-/// What the table check answers where the tables are not sound.
+/// What the table check answers where the tables are not sound, or an own row is laxer.
 #[derive(Clone, Copy, Debug, PartialEq, Eq)]
 pub struct Unsound {
-    /// `BrokenNumber`, or `WrongLength` of slices.
+    /// `BrokenNumber`, `LaxerOwnRow`, or `WrongLength` of slices.
     pub refusal: Refusal,
-    /// With `BrokenNumber` the place of the first broken number: clearing 0 to 1023, own 1024 to 2047, groups 2048 to 2055. Else 0.
+    /// With `BrokenNumber` the place of the first broken number: clearing 0 to 1023, own 1024 to 2047, groups 2048 to 2055; with `LaxerOwnRow`
+    /// that of the own table's first laxer one. Else 0.
     pub place: usize,
 }
 
 impl fmt::Display for Unsound {
     fn fmt(&self, to: &mut fmt::Formatter<'_>) -> fmt::Result {
         match self.refusal {
-            Refusal::BrokenNumber => write!(to, "{}, place {}", self.refusal, self.place),
+            Refusal::BrokenNumber | Refusal::LaxerOwnRow => write!(to, "{}, place {}", self.refusal, self.place),
             other => other.fmt(to),
         }
     }

@@ -66,7 +66,7 @@ pub struct Tables {
 }
 
 impl Tables {
-    /// Are they sound? If not, where is the first broken number?
+    /// Are they sound, and own rows only stricter? If not, where is the first number that is not?
     pub fn check(&self) -> Result<(), Unsound> {
         calls::check_tables(self.lent())
     }

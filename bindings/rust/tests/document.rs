@@ -135,12 +135,25 @@ fn refusals() {
 }
 
 #[test]
+fn an_own_row_may_only_be_stricter() {
+    let (book, mut tables) = start(ACCOUNT_ORDINARY);
+    tables.own[0] = tables.clearing[0];
+    assert_eq!(tables.check(), Ok(()));
+    tables.own[0][ROW_ACCEPTANCE_SHARE] = 9_000;
+    let laxer = Unsound { refusal: Refusal::LaxerOwnRow, place: PLACE_OWN + ROW_ACCEPTANCE_SHARE };
+    assert_eq!(tables.check(), Err(laxer));
+    assert_eq!(laxer.to_string(), "the table check finds an own row that is laxer than its clearing row, place 1026");
+    assert_eq!(book.report(&tables, 16), Err(Refusal::LaxerOwnRow));
+    tables.groups[7] = 51;
+    assert_eq!(book.report(&tables, 16), Err(Refusal::BrokenNumber));
+}
+
+#[test]
 fn a_refusal_in_words() {
     assert_eq!(
         Refusal::NegativeLimit.to_string(),
         "limit after a withdrawal would be negative, or after an order negative and not raised by it"
     );
-    for (at, refusal) in Refusal::ALL.into_iter().enumerate() {
-        assert_eq!(refusal.code() as usize, at + 1);
-    }
+    let codes: Vec<u8> = Refusal::ALL.iter().map(|refusal| refusal.code()).collect();
+    assert_eq!(codes, [1, 2, 3, 4, 5, 6, 7, 8, 9, 10, 13]);
 }
