@@ -1,4 +1,4 @@
-//! The rules of document 01 in plain Rust, in the document's order, with requests #101 and #102 of document 02: the second
+//! The rules of document 01 in plain Rust, in the document's order, with requests #101 to #103 of document 02: the second
 //! program that the engine is compared with, written from the documents and the readings of them in docs/DECISIONS.md.
 //! Numbers are i64 as the document has them, but for the phone app's floats. Of a sound block under sound tables nothing
 //! on the way reaches 10^18, and every build stops at a sum or product that would wrap. Sums of unchecked numbers
@@ -10,6 +10,7 @@ mod mutant;
 // Units and sizes.
 pub mod block;
 pub mod row;
+pub mod stricter;
 pub mod tables;
 pub mod units;
 

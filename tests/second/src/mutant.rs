@@ -20,8 +20,11 @@ macro_rules! rule {
 }
 
 #[cfg(test)]
-pub use switch::{Mutant, switched_on};
+pub use {names::Mutant, switch::switched_on};
 
+#[cfg(test)]
+#[path = "mutant_names.rs"]
+mod names;
 #[cfg(test)]
 #[path = "mutant_switch.rs"]
 mod switch;

@@ -41,8 +41,13 @@ pub struct Date {
     pub outer_up: i64,
 }
 
-/// Numbers of a date.
+/// Numbers of a date, and which of them is which.
 pub const DATE: usize = 5;
+pub const MID: usize = 0;
+pub const LOW: usize = 1;
+pub const UP: usize = 2;
+pub const OUTER_LOW: usize = 3;
+pub const OUTER_UP: usize = 4;
 const AFTER_DATES: usize = FIRST_DATE + DATE * DATES;
 
 /// Where a date's five numbers start: 16 + 5d.
@@ -53,12 +58,17 @@ pub fn date_start(date: usize) -> usize {
 pub fn date(row: &Row, date: usize) -> Date {
     let start = date_start(date);
     Date {
-        mid: row[start],
-        low: row[start + 1],
-        up: row[start + 2],
-        outer_low: row[start + 3],
-        outer_up: row[start + 4],
+        mid: row[start + MID],
+        low: row[start + LOW],
+        up: row[start + UP],
+        outer_low: row[start + OUTER_LOW],
+        outer_up: row[start + OUTER_UP],
     }
+}
+
+/// Which date a number of the row is of, and which of its five it is.
+pub fn date_of(number: usize) -> Option<(usize, usize)> {
+    (FIRST_DATE..AFTER_DATES).contains(&number).then(|| ((number - FIRST_DATE) / DATE, (number - FIRST_DATE) % DATE))
 }
 
 /// The least and the greatest value a number may have.

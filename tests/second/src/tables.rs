@@ -1,7 +1,9 @@
-//! Document 01, "Units and sizes": the lent tables and groups, the row in force, and the table check with the place.
+//! Document 01, "Units and sizes": the lent tables and groups, the row in force, and the places that the table check
+//! names; with #103 of document 02.
 
 use crate::block::is_zero;
 use crate::row::{self, Row};
+use crate::stricter;
 use crate::units::*;
 
 /// Tables and groups as a caller lends them, of any length.
@@ -47,10 +49,25 @@ fn rows(table: &[i64]) -> Option<&[Row; ASSETS]> {
 impl<'a> Tables<'a> {
     /// The row in force: the own row where present, else the clearing row.
     pub fn row_in_force(&self, asset: usize) -> &'a Row {
-        if is_present(&self.own[asset]) {
-            rule!(&self.own[asset]; OwnRowIgnored => &self.clearing[asset])
+        let (own, clearing) = (&self.own[asset], &self.clearing[asset]);
+        if is_present(own) {
+            rule!(own;
+                OwnRowIgnored => clearing,
+                OwnShareIgnored => mixed(own, clearing, |number| number == row::ACCEPTANCE_SHARE),
+                OwnPoolShareIgnored => mixed(own, clearing, |number| number == row::POOL_SHARE),
+                OwnSpecialIgnored => mixed(own, clearing, |number| number == row::SPECIAL_DELIVERY),
+                OwnFallIgnored => mixed(own, clearing, |number| number == row::FALL),
+                OwnRiseIgnored => mixed(own, clearing, |number| number == row::RISE),
+                OwnRaisedFallIgnored => mixed(own, clearing, |number| number == row::RAISED_FALL),
+                OwnRaisedRiseIgnored => mixed(own, clearing, |number| number == row::RAISED_RISE),
+                OwnMarketLimitIgnored => mixed(own, clearing, |number| number == row::MARKET_LIMIT),
+                OwnInterestLimitIgnored => mixed(own, clearing, |number| number == row::INTEREST_LIMIT),
+                OwnLowsIgnored => mixed(own, clearing, |number| is_of_date(number, row::LOW)),
+                OwnUpsIgnored => mixed(own, clearing, |number| is_of_date(number, row::UP)),
+                OwnOuterLowsIgnored => mixed(own, clearing, |number| is_of_date(number, row::OUTER_LOW)),
+                OwnOuterUpsIgnored => mixed(own, clearing, |number| is_of_date(number, row::OUTER_UP)))
         } else {
-            &self.clearing[asset]
+            clearing
         }
     }
 
@@ -59,8 +76,7 @@ impl<'a> Tables<'a> {
         self.clearing[asset][row::KIND] != row::UNLISTED
     }
 
-    /// The table check: the place of the first broken number. Clearing 0 to 1023, own 1024 to 2047, groups 2048 to
-    /// 2055, in that order.
+    /// The place of the first broken number. Clearing 0 to 1023, own 1024 to 2047, groups 2048 to 2055, in that order.
     pub fn first_broken(&self) -> Option<usize> {
         let clearing = (0..ASSETS).find_map(|asset| {
             let number = row::first_broken(&self.clearing[asset])?;
@@ -78,6 +94,44 @@ impl<'a> Tables<'a> {
         };
         clearing.or_else(own).or_else(group)
     }
+
+    /// #103: the place of the first number in which an own row is laxer than the clearing row. Absent rows are not
+    /// compared.
+    pub fn first_laxer(&self) -> Option<usize> {
+        let laxer = |asset: usize| {
+            let (own, clearing) = (&self.own[asset], &self.clearing[rule!(asset; FirstClearingRowCompared => 0)]);
+            if rule!(!is_present(own); AbsentRowCompared => false) {
+                return None;
+            }
+            Some(own_place(asset, stricter::first_laxer(own, clearing)?))
+        };
+        rule!((0..ASSETS).find_map(laxer);
+            FirstOwnRowAloneCompared => laxer(0),
+            LastOwnRowNotCompared => (0..ASSETS - 1).find_map(laxer),
+            OwnRowsFromTheLast => (0..ASSETS).rev().find_map(laxer))
+    }
+}
+
+/// For mutants: the own row with some of the clearing row's numbers. Each that comes up is kept for good, once.
+#[cfg(test)]
+fn mixed(own: &Row, clearing: &Row, is_clearings: impl Fn(usize) -> bool) -> &'static Row {
+    use std::cell::RefCell;
+    use std::collections::HashSet;
+    thread_local! {
+        static KEPT: RefCell<HashSet<&'static Row>> = RefCell::default();
+    }
+    let row = std::array::from_fn(|number| if is_clearings(number) { clearing[number] } else { own[number] });
+    KEPT.with_borrow_mut(|kept| {
+        if !kept.contains(&row) {
+            kept.insert(Box::leak(Box::new(row)));
+        }
+        *kept.get(&row).expect("kept")
+    })
+}
+
+#[cfg(test)]
+fn is_of_date(number: usize, wanted: usize) -> bool {
+    row::date_of(number).is_some_and(|(_, of_five)| of_five == wanted)
 }
 
 /// An own row is absent if all zero.

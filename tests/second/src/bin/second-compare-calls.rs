@@ -24,7 +24,9 @@ fn main() -> ExitCode {
     }
     let total: u64 = counts.calls.values().flat_map(BTreeMap::values).sum();
     println!("{count} scripts from seed {first} on and {} stored: {total} calls, none differs", inputs.len());
-    println!("{:>10}  places named by check", counts.places.len());
+    for (code, places) in &counts.places {
+        println!("{:>10}  places named by check with code {code}", places.len());
+    }
     for (call, codes) in &counts.calls {
         let codes: Vec<_> = codes.iter().map(|(code, count)| format!("{code}: {count}")).collect();
         println!("{call:>10}  {}", codes.join(", "));
@@ -41,8 +43,8 @@ fn usage() -> ExitCode {
 struct Counts {
     /// How often each call was answered with each code; of `cover`, with no and yes.
     calls: BTreeMap<String, BTreeMap<u8, u64>>,
-    /// The places that `check` named with code 2.
-    places: BTreeSet<String>,
+    /// The places that `check` named with codes 2 and 13.
+    places: BTreeMap<u8, BTreeSet<String>>,
 }
 
 impl Counts {
@@ -54,8 +56,8 @@ impl Counts {
             let mut words = answer.split(' ');
             let code = words.next().and_then(|code| code.parse().ok()).expect("a code");
             *self.calls.entry(call.to_string()).or_default().entry(code).or_default() += 1;
-            if call == "check" && code == 2 {
-                self.places.extend(words.next().map(str::to_string));
+            if call == "check" && [2, 13].contains(&code) {
+                self.places.entry(code).or_default().extend(words.next().map(str::to_string));
             }
         }
     }

@@ -1,7 +1,8 @@
 //! Document 01, "Calls and turning away": the codes, and the looks every call takes first, in the table's order; with
-//! requests #101 and #102 of document 02.
+//! requests #101 to #103 of document 02.
 
 mod app;
+mod check;
 mod moving;
 mod open;
 mod order;
@@ -10,6 +11,8 @@ mod roll;
 mod unapp;
 
 pub use app::{App, app};
+pub use check::check_tables;
+use check::first_fault;
 pub use moving::{Move, RUBLES, move_collateral};
 pub use open::open;
 pub use order::{BUY, Order, SELL, order};
@@ -25,7 +28,8 @@ use crate::limit::figures;
 use crate::tables::{Lent, Tables};
 use crate::units::*;
 
-/// Why a call is turned away; its number is the code. Checked in the order 1, 2, 3, 6, 4, 5, 7, 8, 9, 10.
+/// Why a call is turned away; its number is the code. Checked in the order 1, 2, 13, 3, 6, 4, 5, 7, 8, 9,
+/// 10.
 #[derive(Clone, Copy, Debug, PartialEq)]
 #[repr(u8)]
 pub enum Refusal {
@@ -39,6 +43,7 @@ pub enum Refusal {
     WrongAmount = 8,
     OutOfBounds = 9,
     LimitBelowZero = 10,
+    LaxerOwnRow = 13,
 }
 
 pub const DONE: u8 = 0;
@@ -47,27 +52,18 @@ pub fn code<T>(answer: &Result<T, Refusal>) -> u8 {
     answer.as_ref().err().map_or(DONE, |&refusal| refusal as u8)
 }
 
-/// The call "check tables": its code, and the place of the first broken number with code 2, else 0.
-pub fn check_tables(lent: &Lent) -> (u8, usize) {
-    match lent.tables().map(|tables| tables.first_broken()) {
-        None => (Refusal::WrongLength as u8, rule!(0; PlaceOfWrongLength => 1)),
-        Some(Some(place)) => (Refusal::BrokenTable as u8, named(place)),
-        Some(None) => (DONE, 0),
-    }
-}
-
-/// The place as the answer names it: counted over all three.
-fn named(place: usize) -> usize {
-    rule!(place; PlaceOffByOne => place + 1, PlaceWithinItsTable => place % TABLE)
-}
-
-/// Codes 1, 2 and 3 of a call that is lent tables: the tables and the account's number.
+/// Codes 1, 2, 13 and 3 of a call that is lent tables: the tables and the account's number.
 fn first_look<'a>(book: &[i64], lent: &Lent<'a>, account: i64) -> Result<(Tables<'a>, usize), Refusal> {
     rule!((); TablesBeforeLengthOfBook => refuse_broken(lent)?);
     refuse_unless(book_length_is_right(book), Refusal::WrongLength)?;
     let tables = lent.tables().ok_or(Refusal::WrongLength)?;
     rule!((); AccountBeforeTables => refuse_unless(account_number(account).is_ok(), Refusal::NoSuchAccount)?);
-    refuse_unless(tables.first_broken().is_none(), Refusal::BrokenTable)?;
+    let fault = first_fault(&tables).map(|fault| fault.refusal);
+    let fault = rule!(fault;
+        AccountBeforeLaxer => fault.filter(|&fault| fault == Refusal::BrokenTable || account_number(account).is_ok()),
+        BlockBeforeLaxer => fault.filter(|&fault| fault == Refusal::BrokenTable),
+        LaxerSeenByCheckAlone => fault.filter(|&fault| fault == Refusal::BrokenTable));
+    fault.map_or(Ok(()), Err)?;
     Ok((tables, account_number(account)?))
 }
 
@@ -99,7 +95,9 @@ pub(crate) fn open_block(block: &Block, tables: Option<&Tables>) -> Result<(), R
     rule!((); NotOpenBeforeBroken => refuse_unless(block[block::KIND] != block::NOT_OPEN, Refusal::NotOpen)?);
     let sound = block::is_sound(block) && tables.is_none_or(|tables| holdings_are_listed(block, tables));
     refuse_unless(sound, Refusal::BrokenBlock)?;
-    refuse_unless(block[block::KIND] != block::NOT_OPEN, Refusal::NotOpen)
+    refuse_unless(block[block::KIND] != block::NOT_OPEN, Refusal::NotOpen)?;
+    let laxer = rule!(false; BlockBeforeLaxer => tables.is_some_and(|tables| tables.first_laxer().is_some()));
+    refuse_unless(!laxer, Refusal::LaxerOwnRow)
 }
 
 fn holdings_are_listed(block: &Block, tables: &Tables) -> bool {

@@ -28,7 +28,7 @@ const FIGURES: [&str; RECORD] = ["valuation", "market risk", "interest risk", "d
 const REFUSED: &str = "refusals that leave a feed of five that holds something";
 const COUNT: &str = "other counts of the feed, and the report's code beside them";
 /// Every code of a report.
-const CODES: [u8; 6] = [0, 1, 2, 3, 4, 6];
+const CODES: [u8; 7] = [0, 1, 2, 3, 4, 6, 13];
 const COUNTS: [usize; 3] = [0, RECORD - 1, RECORD + 1];
 
 pub fn expect(tally: &mut Tally) {

@@ -13,16 +13,17 @@ use crate::units::*;
 const CODES: [(&str, &[u8]); 6] = [
     ("codes of set", &[0, 7]),
     ("codes of open", &[0, 3, 5, 7]),
-    ("codes of move", &[0, 2, 3, 4, 6, 7, 8, 9, 10]),
-    ("codes of order", &[0, 2, 3, 4, 6, 7, 8, 9, 10]),
+    ("codes of move", &[0, 2, 3, 4, 6, 7, 8, 9, 10, 13]),
+    ("codes of order", &[0, 2, 3, 4, 6, 7, 8, 9, 10, 13]),
     ("codes of roll", &[0, 3, 4, 9]),
-    ("codes of report", &[0, 2, 3, 4, 6]),
+    ("codes of report", &[0, 2, 3, 4, 6, 13]),
 ];
 const PAIR: &str = "orders that two codes apply to";
 #[rustfmt::skip]
-const PAIRS: [&str; 12] = [
-    "2 before 3", "2 before 4", "2 before 7", "2 before 8", "3 before 7", "3 before 8",
-    "4 before 7", "4 before 8", "6 before 7", "7 before 8", "8 before 9", "9 before 10",
+const PAIRS: [&str; 17] = [
+    "2 before 13", "2 before 3", "2 before 4", "2 before 7", "2 before 8", "13 before 3", "13 before 4", "13 before 7",
+    "13 before 8", "3 before 7", "3 before 8", "4 before 7", "4 before 8", "6 before 7", "7 before 8", "8 before 9",
+    "9 before 10",
 ];
 const EDGE: &str = "limit after a call";
 const EDGES: [&str; 3] = ["-1, refused", "0, admitted", "1, admitted"];
@@ -133,6 +134,7 @@ fn count_pair(step: &Step, order: &Order, tally: &mut Tally) {
     let tables = step.before.tables();
     let mut codes = Vec::new();
     codes.extend(tables.first_broken().map(|_| Refusal::BrokenTable));
+    codes.extend(tables.first_laxer().map(|_| Refusal::LaxerOwnRow));
     let account = account_of(order.account);
     match account {
         None => codes.push(Refusal::NoSuchAccount),

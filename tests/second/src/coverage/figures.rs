@@ -1,6 +1,6 @@
 //! Coverage of the figures: what each report that is done rests on, asset by asset.
 
-use super::{Step, tally::Tally};
+use super::{Step, stricter, tally::Tally};
 use crate::asset::Asset;
 use crate::block::{self, Block, COLLATERAL, is_zero};
 use crate::calls::DONE;
@@ -41,7 +41,7 @@ pub fn expect(tally: &mut Tally) {
     tally.expect(LEFT_OUT, REGIMES);
     tally.expect(MARKET, SIDES.into_iter().chain(["zero, of dates that are not"]));
     tally.expect(INTEREST, SIDES);
-    let rates = ["own row", "mid not 0", "raised fall", "raised rise", "outer low", "outer up"];
+    let rates = ["mid not 0", "raised fall", "raised rise", "outer low", "outer up"];
     let signs = ["interest sum positive", "interest sum negative", "dates of both signs"];
     tally.expect(RISK, rates.into_iter().chain(signs));
     tally.expect(ROUNDING, ["share's part", "market risk", "discount", "discounts of two groups"]);
@@ -62,7 +62,9 @@ pub fn count(step: &Step, account: i64, tally: &mut Tally) {
     for (number, holding) in block::holdings(block).iter().enumerate().filter(|(_, holding)| !is_zero(*holding)) {
         let asset = Asset::new(block[block::KIND], tables.row_in_force(number), holding);
         tally.count(ROW_KIND, asset.row[KIND]);
-        tally.count_if(is_present(&tables.own[number]), RISK, "own row");
+        if is_present(&tables.own[number]) {
+            stricter::count_in_force(&asset, &tables.clearing[number], block[block::KIND], holding, tally);
+        }
         count_collateral(&asset, holding[COLLATERAL], block[block::KIND], tally);
         count_market(&asset, &tables, tally);
         count_interest(&asset, tally);

@@ -9,6 +9,7 @@ mod script_arguments;
 mod script_blocks;
 mod script_cover;
 pub mod scripts;
+mod stricter;
 mod tables;
 mod tally;
 mod trouble;

@@ -32,7 +32,7 @@ pub fn count(command: &Command, code: u8, before: &Buffers, tally: &mut Tally) {
     let (Some(call), Some(account)) = (command.call(), command.account().and_then(account_of)) else { return };
     let lends_tables = command.lent().contains(&Buffer::Groups);
     let tables = before.tables().expect("right lengths");
-    if lends_tables && tables.first_broken().is_some() {
+    if lends_tables && (tables.first_broken().is_some() || tables.first_laxer().is_some()) {
         return;
     }
     let damaged = |account: usize| !block::is_sound(before.block(account));

@@ -2,7 +2,7 @@
 //! scripts reach of all that sessions reach.
 
 use super::{State, Step, account_of, app, calls, count_call, figures, script_arguments, script_blocks, script_cover};
-use super::{tables, tally::Tally, trouble, unapp};
+use super::{stricter, tables, tally::Tally, trouble, unapp};
 use crate::calls::{DONE, Refusal};
 use crate::frame::Frame;
 use crate::script::{Answer, Buffer, Buffers, Command, obey};
@@ -12,20 +12,20 @@ use crate::units::ACCOUNTS;
 
 /// Each call and the codes it can answer; of `cover`, no and yes.
 const CODES: [(&str, &[u8]); 9] = [
-    ("check", &[0, 1, 2]),
+    ("check", &[0, 1, 2, 13]),
     ("cover", &[0, 1]),
     ("open", &[0, 1, 3, 5, 6, 7]),
-    ("move", &[0, 1, 2, 3, 4, 6, 7, 8, 9, 10]),
-    ("order", &[0, 1, 2, 3, 4, 6, 7, 8, 9, 10]),
+    ("move", &[0, 1, 2, 3, 4, 6, 7, 8, 9, 10, 13]),
+    ("order", &[0, 1, 2, 3, 4, 6, 7, 8, 9, 10, 13]),
     ("roll", &[0, 1, 3, 4, 6, 9]),
-    ("report", &[0, 1, 2, 3, 4, 6]),
-    ("app", &[0, 1, 2, 3, 4, 6]),
+    ("report", &[0, 1, 2, 3, 4, 6, 13]),
+    ("app", &[0, 1, 2, 3, 4, 6, 13]),
     ("unapp", &[0, 1, 9]),
 ];
 const CODE: &str = "codes of each call";
 const DONE_BY: &str = "calls done by account";
-const PLACE: &str = "place that check answers";
-const PLACE_AT_ENDS: &str = "place that check answers, its number at an end of 64 bits";
+const PLACE: &str = "place that check answers with 2";
+const PLACE_AT_ENDS: &str = "place that check answers with 2, its number at an end of 64 bits";
 const LENGTH: &str = "wrong length of a lent buffer";
 const NOT_LENT: &str = "wrong length of a buffer that is not lent";
 const PAIR: &str = "two grounds, each alone and both at once";
@@ -79,6 +79,7 @@ pub fn expected() -> Tally {
     app::expect(&mut tally);
     unapp::expect(&mut tally);
     tables::expect(&mut tally);
+    stricter::expect_places(&mut tally);
     figures::expect(&mut tally);
     tally
 }
@@ -143,12 +144,20 @@ fn count_answer(
     } else {
         count_lengths(command, call, code, before, tally);
     }
-    if let Answer::Check { code: 2, place } = *answer {
-        tally.count(PLACE, place);
-        let (buffer, number) = Buffer::of_place(place);
-        let value = before.numbers(buffer)[number];
-        tally.count_if([i64::MIN, i64::MAX].contains(&value), PLACE_AT_ENDS, format!("{value} {place}"));
+    match *answer {
+        Answer::Check { code: 2, place } => count_place(before, place, tally),
+        Answer::Check { code: 13, place } => {
+            stricter::count_place(&before.tables().expect("right lengths"), place, tally);
+        }
+        _ => {}
     }
+}
+
+fn count_place(before: &Buffers, place: usize, tally: &mut Tally) {
+    tally.count(PLACE, place);
+    let (buffer, number) = Buffer::of_place(place);
+    let value = before.numbers(buffer)[number];
+    tally.count_if([i64::MIN, i64::MAX].contains(&value), PLACE_AT_ENDS, format!("{value} {place}"));
 }
 
 fn wrong_lengths(buffers: &Buffers) -> Vec<(Buffer, usize)> {

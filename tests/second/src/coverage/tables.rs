@@ -1,6 +1,6 @@
 //! Coverage of the table check: each number found broken first, and each bound seen from both sides.
 
-use super::tally::Tally;
+use super::{stricter, tally::Tally};
 use crate::generate::bounds_at;
 use crate::row::{Bounds, KIND, UNLISTED};
 use crate::tables::{Tables, group_place, own_place};
@@ -30,10 +30,12 @@ pub fn expect(tally: &mut Tally) {
     for family in [CLEARING_BOUNDS, OWN_BOUNDS] {
         tally.expect(family, SIDES.iter().flat_map(|side| (0..ROW).map(move |number| format!("{side} {number}"))));
     }
+    stricter::expect(tally);
 }
 
 /// Looks at the places set since the tables were last looked at.
 pub fn count(tables: &Tables, touched: &[usize], tally: &mut Tally) {
+    stricter::count(tables, touched, tally);
     let broken = tables.first_broken();
     if let Some(place) = broken {
         count_broken(tables, place, tally);

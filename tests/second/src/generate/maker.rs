@@ -9,6 +9,7 @@ use crate::frame::Frame;
 use crate::limit::figures;
 use crate::row::Row;
 use crate::session::Session;
+use crate::stricter;
 use crate::tables::{Tables, clearing_place, is_present, own_place};
 use crate::units::*;
 
@@ -95,8 +96,10 @@ impl Maker {
         self.session.lent().tables().expect("the session's tables have their lengths")
     }
 
+    /// They pass the table check.
     pub fn tables_are_sound(&self) -> bool {
-        self.tables().first_broken().is_none()
+        let tables = self.tables();
+        tables.first_broken().is_none() && tables.first_laxer().is_none()
     }
 
     /// An account that is open, under sound tables, and all whose holdings are listed.
@@ -137,8 +140,13 @@ impl Maker {
         if self.has_own_row(asset) { own_place(asset, 0) } else { clearing_place(asset, 0) }
     }
 
-    /// Sets a number of the row in force, where it differs.
+    /// Sets a number of the row in force, where it differs. Where an own row would be laxer by it, the clearing row's
+    /// number goes along.
     pub fn set_in_force(&mut self, asset: usize, number: usize, value: i64) {
+        let clearing = self.tables().clearing[asset][number];
+        if self.has_own_row(asset) && !stricter::bounds(number, clearing).contain(value) {
+            self.set(clearing_place(asset, number), value);
+        }
         let place = self.start_in_force(asset) + number;
         if self.parameter(place) != value {
             self.set(place, value);

@@ -1,5 +1,5 @@
-//! Session inputs that reach every rule of document 01 and #101 of document 02 often: scenes, drawn by weight, that keep
-//! the tables sound most of the time. The same bytes for the same seed and count of lines.
+//! Session inputs that reach every rule of document 01, #101 and #103 of document 02 often: scenes, drawn by weight, that
+//! keep the tables sound most of the time. The same bytes for the same seed and count of lines.
 
 mod bounds;
 mod edges;
@@ -9,6 +9,7 @@ mod random;
 mod regimes;
 mod rows;
 mod steered;
+mod stricter;
 mod trades;
 mod trouble;
 
@@ -16,11 +17,12 @@ pub use faults::HUGE;
 pub use random::Random;
 pub use rows::{bounds_at, draw as draw_row, settle};
 pub use steered::Steered;
+pub use stricter::{draw_over, moved as moved_over, settle_over};
 
 use maker::Maker;
 
 /// How often each scene is drawn, in parts of their sum.
-const SCENES: [(usize, fn(&mut Maker)); 26] = [
+const SCENES: [(usize, fn(&mut Maker)); 29] = [
     (64, rows::number_past_its_bound),
     (30, rows::number_at_its_bound),
     (6, rows::unlisted_row_broken),
@@ -30,6 +32,9 @@ const SCENES: [(usize, fn(&mut Maker)); 26] = [
     (4, rows::lend_own_row),
     (3, rows::shock),
     (3, rows::unlist_what_is_held),
+    (14, stricter::either_side),
+    (6, stricter::beside_broken),
+    (10, stricter::in_force),
     (6, trades::open),
     (10, trades::deposit),
     (8, trades::withdraw),

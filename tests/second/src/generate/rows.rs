@@ -2,6 +2,7 @@
 
 use super::maker::Maker;
 use super::random::Random;
+use super::stricter::{draw_over, follow, settle_over};
 use super::trades;
 use crate::block::{self, is_zero};
 use crate::row::{self, *};
@@ -116,26 +117,34 @@ pub fn list(maker: &mut Maker) {
 /// An own row that comes, changes or goes.
 pub fn lend_own_row(maker: &mut Maker) {
     let Some(asset) = maker.asset(true) else { return };
-    let kind = maker.tables().clearing[asset][KIND];
-    let group = maker.group;
+    let clearing = maker.tables().clearing[asset];
     let mut row = [0; ROW];
     if !maker.has_own_row(asset) || maker.random.percent(50) {
-        let lean = maker.random.percent(50);
-        row = if lean { draw_lean(&mut maker.random, kind) } else { draw(&mut maker.random, kind, group) };
+        row = draw_over(&mut maker.random, &clearing);
     }
     write(maker, own_place(asset, 0), &row);
 }
 
-/// Prices, rates or dates change under the accounts, which may leave their limits below 0.
+/// Prices, rates or dates change under the accounts, which may leave their limits below 0. An own row stays stricter;
+/// where the clearing row changes under it, it follows, at once or a call later.
 pub fn shock(maker: &mut Maker) {
     let Some((start, mut row)) = some_row(maker) else { return };
+    let asset = start % TABLE / ROW;
     let number = maker.random.pick(&[PRICE, FALL, RISE, MARKET_LIMIT, INTEREST_LIMIT, SPECIAL_DELIVERY, COVERED_SALES]);
     let Bounds { lowest, highest } = row::bounds(&row)[number];
     row[number] = maker.random.between(lowest, highest);
     let date = maker.random.below(DATES);
     draw_date(&mut maker.random, &mut row, date);
-    settle(&mut row);
+    if start < TABLE {
+        settle(&mut row);
+    } else {
+        settle_over(&mut row, &maker.tables().clearing[asset]);
+    }
     write(maker, start, &row);
+    if maker.random.percent(50) {
+        trades::probe(maker);
+    }
+    follow(maker, asset);
     for _ in 0..2 {
         trades::probe(maker);
     }
@@ -166,9 +175,11 @@ pub fn bounds_at(tables: &Tables, place: usize) -> Bounds {
     }
 }
 
-/// A number goes to one of its bounds and the numbers after it follow; the tables stay sound.
+/// A number goes to one of its bounds and the numbers after it follow, sometimes the own row too. The tables stay sound.
 pub fn number_at_its_bound(maker: &mut Maker) {
     let Some((start, row)) = some_row(maker) else { return };
+    let asset = start % TABLE / ROW;
+    let own = maker.tables().own[asset];
     let number = some_number(&mut maker.random);
     let Bounds { lowest, highest } = row::bounds(&row)[number];
     let mut settled = row;
@@ -177,10 +188,14 @@ pub fn number_at_its_bound(maker: &mut Maker) {
     // Said even where it stood there before.
     maker.set(start + number, settled[number]);
     write(maker, start, &settled);
+    if start < TABLE && maker.random.percent(50) {
+        follow(maker, asset);
+    }
     trades::probe(maker);
     let few = settled.iter().zip(&row).filter(|(now, before)| now != before).count() <= FEW;
     if !maker.tables_are_sound() || (few && maker.random.percent(70)) {
         write(maker, start, &row);
+        write(maker, own_place(asset, 0), &own);
     }
 }
 

@@ -102,7 +102,7 @@ fn greatest_row() -> Row {
 /// Every code of a report, with a feed of five numbers and of other counts; and those counts alone.
 pub fn refusals(maker: &mut Maker) {
     let good = Situation::new(maker, "app", false);
-    for code in [0, 1, 2, 3, 6, 4] {
+    for code in [0, 1, 2, 13, 3, 6, 4] {
         let mut situation = good.clone();
         match code {
             0 => {}

@@ -4,7 +4,7 @@ use super::maker::Maker;
 use super::unapp::draw_feed;
 use super::{app, edges};
 use crate::block::{self, Block, CLAIMS, COLLATERAL, LISTED_POOL, NETS, OBLIGATIONS, ORDINARY, RUBLES};
-use crate::generate::{Random, draw_row};
+use crate::generate::{Random, draw_over, draw_row};
 use crate::row::{COMMODITY, GROUP, INTEREST_LIMIT, KIND, MARKET_LIMIT, SECURITY};
 use crate::script::{Buffer, Buffers, Command};
 use crate::tables::Tables;
@@ -27,7 +27,8 @@ pub fn scene(maker: &mut Maker) {
     }
 }
 
-/// Sound tables, so many rows in a hundred listed and so many of those with an own row; and a feed that holds something.
+/// Sound tables, so many rows in a hundred listed and so many of those with an own row, which is stricter; and a feed
+/// that holds something.
 pub fn draw_tables(random: &mut Random, listed: i64, owned: i64) -> Buffers {
     let mut tables = Buffers::default();
     for asset in 0..ASSETS {
@@ -37,9 +38,10 @@ pub fn draw_tables(random: &mut Random, listed: i64, owned: i64) -> Buffers {
         }
         let kind = random.between(SECURITY, COMMODITY);
         let rows = ROW * asset..ROW * (asset + 1);
-        tables.numbers_mut(Buffer::Clearing)[rows.clone()].copy_from_slice(&some_row(random, kind));
+        let clearing = some_row(random, kind);
+        tables.numbers_mut(Buffer::Clearing)[rows.clone()].copy_from_slice(&clearing);
         if random.percent(owned) {
-            tables.numbers_mut(Buffer::Own)[rows].copy_from_slice(&some_row(random, kind));
+            tables.numbers_mut(Buffer::Own)[rows].copy_from_slice(&draw_over(random, &clearing));
         }
     }
     for group in 0..GROUPS {

@@ -35,16 +35,26 @@ fn at_the_edge(maker: &mut Maker, asset: usize, owned: bool, below: bool) {
         row[date_start(0)..date_start(1)].copy_from_slice(&edge_date(maker, mid, width, below));
         let mut wanted = maker.buffers().clone();
         let start = ROW * asset;
-        let other = maker.random.pick(&[0, WHOLE]);
-        let mut clearing = [0; ROW];
-        clearing[..RAISED_RISE + 1].copy_from_slice(&[kind, price, 0, 0, 0, 0, 0, 0, other, other]);
-        let (first, second) = if owned { (clearing, row) } else { (row, [0; ROW]) };
+        let (first, second) = if owned { (laxer(maker, &row), row) } else { (row, [0; ROW]) };
         wanted.numbers_mut(Buffer::Clearing)[start..start + ROW].copy_from_slice(&first);
         wanted.numbers_mut(Buffer::Own)[start..start + ROW].copy_from_slice(&second);
         maker.lend(&wanted);
         maker.call(Command::Check);
         maker.call(Command::Cover { asset: asset as i64 });
     }
+}
+
+/// A clearing row over which the row is stricter: it passes the test by far, or as nearly as the row does.
+fn laxer(maker: &mut Maker, row: &Row) -> Row {
+    let mut clearing = *row;
+    if maker.random.percent(50) {
+        clearing[RAISED_FALL..=RAISED_RISE].fill(0);
+    }
+    if maker.random.percent(70) {
+        let mid = row[date_start(0)];
+        clearing[date_start(0)..date_start(1)].fill(mid);
+    }
+    clearing
 }
 
 /// The five numbers of a date whose outer low or outer up is so far from the mid, and the other one nearer.

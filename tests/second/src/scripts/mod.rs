@@ -1,6 +1,6 @@
-//! Call scripts that reach what sessions cannot: hand-made books and tables, every place of the tables, every number of
-//! a block, wrong lengths, arguments of any size, two grounds of refusal at once,
-//! and the figures for the phone app. The same bytes for the same seed.
+//! Call scripts that reach what sessions cannot: hand-made books and tables, every place of the tables broken or laxer,
+//! every number of a block, wrong lengths, arguments of any size, two grounds of refusal at once, and the figures for the
+//! phone app. The same bytes for the same seed.
 
 mod app;
 mod arguments;
@@ -13,6 +13,7 @@ mod maker;
 mod pairs;
 mod places;
 mod sessions;
+mod stricter;
 mod trouble;
 mod unapp;
 
@@ -36,6 +37,7 @@ pub fn script(seed: u64) -> Script {
     for scene in [
         places::every_row_there,
         places::no_row_there,
+        stricter::scene,
         blocks::damaged,
         blocks::unlisted_holdings,
         lengths::scene,

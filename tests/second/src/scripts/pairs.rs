@@ -8,6 +8,9 @@ use crate::calls::{BUY, Move, Order, SELL};
 use crate::cases::{GROUP_ONE, row_a};
 use crate::generate::Random;
 use crate::record::RECORD;
+use crate::row::{
+    ACCEPTANCE_SHARE, COVERED_SALES, FALL, GROUP, LOW, MARKET_LIMIT, OUTER_UP, PRICE, RAISED_RISE, date_start,
+};
 use crate::script::{Buffer, Buffers, Command};
 use crate::units::*;
 
@@ -16,24 +19,30 @@ use crate::units::*;
 /// bounds by a good order; and a withdrawal of a wrong asset or amount, or from an empty block, leaves no limit to judge.
 #[rustfmt::skip]
 pub const CALLS: [(&str, &[(u8, u8)]); 8] = [
-    ("check", &[(1, 2)]),
+    ("check", &[(1, 2), (1, 13), (2, 13)]),
     ("open", &[(1, 3), (1, 6), (1, 5), (1, 7), (3, 7), (6, 7), (5, 7)]),
-    ("move", &[(1, 2), (1, 3), (1, 6), (1, 4), (1, 7), (1, 8), (1, 9), (1, 10), (2, 3), (2, 6), (2, 4), (2, 7), (2, 8),
-        (2, 9), (2, 10), (3, 7), (3, 8), (6, 4), (6, 7), (6, 8), (6, 9), (6, 10), (4, 7), (4, 8), (4, 9), (7, 8),
-        (7, 9), (8, 9), (9, 10)]),
-    ("order", &[(1, 2), (1, 3), (1, 6), (1, 4), (1, 7), (1, 8), (1, 9), (1, 10), (2, 3), (2, 6), (2, 4), (2, 7), (2, 8),
-        (2, 9), (2, 10), (3, 7), (3, 8), (6, 4), (6, 7), (6, 8), (6, 9), (6, 10), (4, 7), (4, 8), (4, 10), (7, 8),
-        (7, 9), (7, 10), (8, 9), (8, 10), (9, 10)]),
+    ("move", &[(1, 2), (1, 13), (1, 3), (1, 6), (1, 4), (1, 7), (1, 8), (1, 9), (1, 10), (2, 13), (2, 3), (2, 6),
+        (2, 4), (2, 7), (2, 8), (2, 9), (2, 10), (13, 3), (13, 6), (13, 4), (13, 7), (13, 8), (13, 9), (13, 10),
+        (3, 7), (3, 8), (6, 4), (6, 7), (6, 8), (6, 9), (6, 10), (4, 7), (4, 8), (4, 9), (7, 8), (7, 9), (8, 9),
+        (9, 10)]),
+    ("order", &[(1, 2), (1, 13), (1, 3), (1, 6), (1, 4), (1, 7), (1, 8), (1, 9), (1, 10), (2, 13), (2, 3), (2, 6),
+        (2, 4), (2, 7), (2, 8), (2, 9), (2, 10), (13, 3), (13, 6), (13, 4), (13, 7), (13, 8), (13, 9), (13, 10),
+        (3, 7), (3, 8), (6, 4), (6, 7), (6, 8), (6, 9), (6, 10), (4, 7), (4, 8), (4, 10), (7, 8), (7, 9), (7, 10),
+        (8, 9), (8, 10), (9, 10)]),
     ("roll", &[(1, 3), (1, 6), (1, 4), (1, 9), (6, 4), (6, 9)]),
-    ("report", &[(1, 2), (1, 3), (1, 6), (1, 4), (2, 3), (2, 6), (2, 4), (6, 4)]),
-    ("app", &[(1, 2), (1, 3), (1, 6), (1, 4), (2, 3), (2, 6), (2, 4), (6, 4)]),
+    ("report", REPORT),
+    ("app", REPORT),
     ("unapp", &[(1, 9)]),
+];
+#[rustfmt::skip]
+const REPORT: &[(u8, u8)] = &[
+    (1, 2), (1, 13), (1, 3), (1, 6), (1, 4), (2, 13), (2, 3), (2, 6), (2, 4), (13, 3), (13, 6), (13, 4), (6, 4),
 ];
 
 /// So many seeds share out the pairs.
 const SHARES: u64 = 6;
 /// Faults of the block come before those of the call, and its emptying before all.
-const MAKING: [u8; 10] = [4, 5, 6, 9, 10, 7, 8, 3, 2, 1];
+const MAKING: [u8; 11] = [4, 5, 6, 9, 10, 7, 8, 3, 13, 2, 1];
 /// An asset without a row.
 const UNLISTED: usize = 1;
 /// What an account of `world` has of asset 0, and owes at date 0.
@@ -125,6 +134,7 @@ impl Situation {
             7 => self.spoil_choice(random, grounds),
             8 => self.spoil_amount(random, grounds),
             9 => self.spoil_bounds(random),
+            13 => self.spoil_own_row(random),
             _ => block[block::RUBLES] = 0,
         }
     }
@@ -148,6 +158,24 @@ impl Situation {
             (Buffer::Clearing, ROW * (ASSETS - 1) + 63),
         ]);
         self.buffers.numbers_mut(buffer)[number] = random.pick(&[51, i64::MIN, i64::MAX]);
+    }
+
+    /// A number of the own row a step laxer than row A's; a pool share of the whole cannot be.
+    fn spoil_own_row(&mut self, random: &mut Random) {
+        let (number, by) = random.pick(&[
+            (PRICE, 1),
+            (ACCEPTANCE_SHARE, 1),
+            (COVERED_SALES, 1),
+            (FALL, -1),
+            (RAISED_RISE, -1),
+            (MARKET_LIMIT, 1),
+            (GROUP, -1),
+            (date_start(0) + LOW, 1),
+            (date_start(7) + OUTER_UP, -1),
+        ]);
+        let own = &mut self.buffers.numbers_mut(Buffer::Own)[..ROW];
+        own.copy_from_slice(&row_a());
+        own[number] += by;
     }
 
     fn spoil_account(&mut self, random: &mut Random) {

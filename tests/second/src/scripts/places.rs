@@ -71,7 +71,8 @@ fn check_at_bound(maker: &mut Maker, place: usize, value: i64) {
     maker.lend(&before);
 }
 
-fn some_call(maker: &mut Maker) -> Command {
+/// A call that is lent tables.
+pub fn some_call(maker: &mut Maker) -> Command {
     let account = maker.random.between(-1, ACCOUNTS as i64);
     let asset = maker.random.between(0, ASSETS as i64);
     let order = Order { account, asset, date: 0, side: BUY, quantity: 1, money: 0 };

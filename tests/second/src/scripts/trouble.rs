@@ -53,12 +53,14 @@ impl Scene<'_> {
     fn with_partial_row(&self, maker: &mut Maker) -> Buffers {
         let mut partial = self.wanted.clone();
         let owned = is_present(&self.wanted.tables().expect("right lengths").own[self.asset]);
-        let row = &mut partial.numbers_mut(if owned { Buffer::Own } else { Buffer::Clearing })[ROW * self.asset..];
         let share = maker.random.between(1, WHOLE);
-        for (number, value) in
-            [(ACCEPTANCE_SHARE, share), (POOL_SHARE, share), (COVERED_SALES, PARTIAL), (SPECIAL_DELIVERY, 0)]
-        {
-            row[number] = value;
+        let numbers = [(ACCEPTANCE_SHARE, share), (POOL_SHARE, share), (COVERED_SALES, PARTIAL), (SPECIAL_DELIVERY, 0)];
+        // An own row is not to be laxer: the clearing row goes along.
+        let tables = if owned { &[Buffer::Clearing, Buffer::Own][..] } else { &[Buffer::Clearing] };
+        for &table in tables {
+            for (number, value) in numbers {
+                partial.numbers_mut(table)[ROW * self.asset + number] = value;
+            }
         }
         let holding = &mut partial.block_mut(self.account)[holding_start(self.asset)..];
         holding[COLLATERAL] = maker.random.up_to(MOST_UNITS).max(1);

@@ -204,6 +204,9 @@ fn refusals_are_the_reports() {
     for account in [16, -1, i64::MIN, i64::MAX] {
         assert_eq!(app(&world, account), Err(3));
     }
+    world.own[..64].copy_from_slice(&row_a());
+    world.own[2] = 9_000;
+    assert_eq!(app(&world, 16), Err(13));
     world.groups[7] = 51;
     assert_eq!(app(&world, 16), Err(2));
     world.own.push(0);

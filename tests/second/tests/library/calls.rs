@@ -21,6 +21,8 @@ fn wreck() -> World {
     let mut world = World::new();
     world.book.push(0);
     world.clearing[0] = 9;
+    world.own[..ROW].copy_from_slice(&row_a());
+    world.own[2] = 9_000;
     world.block(2)[claim(0, 1)] = -1;
     world
 }
@@ -33,6 +35,10 @@ fn right_tables(world: &mut World) {
     world.clearing[0] = 1;
 }
 
+fn right_share(world: &mut World) {
+    world.own[2] = 5_000;
+}
+
 fn all_zero(world: &mut World) {
     world.block(2).fill(0);
 }
@@ -43,7 +49,8 @@ fn opened(world: &mut World) {
 
 #[test]
 fn codes_of_report_in_order() {
-    let steps: [(u8, &dyn Fn(&mut World)); 4] = [(1, &right_length), (2, &right_tables), (6, &all_zero), (4, &opened)];
+    let steps: [(u8, &dyn Fn(&mut World)); 5] =
+        [(1, &right_length), (2, &right_tables), (13, &right_share), (6, &all_zero), (4, &opened)];
     staircase(&mut wreck(), Call::Report(2), &steps);
 }
 
@@ -59,9 +66,10 @@ fn codes_of_order_in_order() {
     let limit = |world: &mut World| world.block(2)[1] = 100_000_000_000_000;
     let unlisted = |world: &mut World| world.block(2)[obligation(5, 3)] = 1;
     let listed = |world: &mut World| world.block(2)[obligation(5, 3)] = 0;
-    let steps: [(u8, &dyn Fn(&mut World)); 9] = [
+    let steps: [(u8, &dyn Fn(&mut World)); 10] = [
         (1, &right_length),
         (2, &right_tables),
+        (13, &right_share),
         (6, &all_zero),
         (4, &opened),
         (7, &unlisted),
@@ -73,7 +81,7 @@ fn codes_of_order_in_order() {
     staircase(&mut wreck(), Call::Order(order), &steps);
     let eight = Call::Order(Order { quantity: 1_000_001, ..order });
     let mut world = wreck();
-    for mend in [right_length, right_tables, all_zero, opened, list] {
+    for mend in [right_length, right_tables, right_share, all_zero, opened, list] {
         mend(&mut world);
     }
     assert_eq!(world.call(eight), 8, "before 9");
@@ -89,9 +97,10 @@ fn codes_of_move_in_order() {
         world.block(2)[2] = -1_000_000;
     };
     let limit = |world: &mut World| world.block(2)[2] = 0;
-    let steps: [(u8, &dyn Fn(&mut World)); 7] = [
+    let steps: [(u8, &dyn Fn(&mut World)); 8] = [
         (1, &right_length),
         (2, &right_tables),
+        (13, &right_share),
         (6, &all_zero),
         (4, &opened),
         (9, &one_unit),

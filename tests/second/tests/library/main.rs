@@ -1,5 +1,5 @@
 //! The library's tests: document 01's sums and session, the table check, the calls, trading out of trouble, the figures
-//! for the phone app, session lines and call scripts.
+//! for the phone app, own rows that may only be stricter, session lines and call scripts.
 
 mod app;
 mod blocks;
@@ -7,6 +7,7 @@ mod calls;
 mod cases;
 mod script;
 mod session;
+mod stricter;
 mod sums;
 mod tables;
 mod trouble;

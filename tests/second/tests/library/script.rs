@@ -111,6 +111,7 @@ fn a_generated_script_is_the_same_each_time_and_answers_every_call() {
 #[test]
 fn answers_are_shown_with_what_they_add() {
     assert_eq!(Answer::Check { code: 2, place: 2055 }.to_string(), "2 2055");
+    assert_eq!(Answer::Check { code: 13, place: 1026 }.to_string(), "13 1026");
     assert_eq!(Answer::Cover(true).to_string(), "1");
     let refused = Answer::App { code: 4, app: App::default(), sum: 9 };
     assert_eq!(refused.to_string(), "4 0 0 0 0 0 0 0 9");

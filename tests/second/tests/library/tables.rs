@@ -51,8 +51,9 @@ fn each_number_of_a_listed_row() {
             // A later number may break by it, this one does not.
             let (code, place) = clearing(value);
             assert!(code == 0 && place == 0 || place > number, "{number}: {value} breaks at {place}");
+            // An own one may be laxer than row A's by it, which is 13 and no broken number.
             let (code, place) = own(value);
-            assert!(code == 0 && place == 0 || place > 1024 + number, "own {number}: {value} breaks at {place}");
+            assert!(code != 2 || place > 1024 + number, "own {number}: {value} breaks at {place}");
         }
     }
 }
