@@ -62,5 +62,8 @@ computed = record {
     not-bought-back = refl;
     richer = refl;
   };
-  raised = record { no-own-rows = refl; without = refl; with-own = refl };
+  raised = record {
+    by-special-delivery = record { no-own-rows = refl; without = refl; with-own = refl };
+    by-pool-share = record { no-own-rows = refl; without = refl; with-own = refl };
+  };
 }

@@ -20,8 +20,8 @@ use Rattle.book.specs.Block.{bookLength}
 use Rattle.engine.specs.State.{State}
 use Rattle.engine.specs.Calls.{outcomeOf, opening, rolling, moving, judgedMove, ordering, judgedTrade}
 use Rattle.engine.specs.Report.{reportOf}
-use Rattle.promises.specs.Sums.{stateIn, tablesIn}
-use Rattle.promises.specs.OwnRows.{AsChecked, OwnRowsAsked, CanRaise, owesTen, specially}
+use Rattle.promises.specs.Sums.{_is_, stateIn, tablesIn}
+use Rattle.promises.specs.OwnRows.{AsChecked, OwnRowsAsked, CanRaise, ownRowA, owesTen}
 use Rattle.promises.proofs.Computed.{computed}
 
 -- ---- a list in which no test gives 13
@@ -69,8 +69,8 @@ own-rows-asked = record {
 
 pub can-raise : CanRaise
 can-raise claim =
-    let r = computed .raised in
+    let r = computed .raised .by-special-delivery in
     let code : List ℤ → ℕ = λ said. natAbs (number said 0) in
     let limit : List ℤ → ℤ = λ said. number said 5 in
-    let h = claim (tablesIn owesTen) specially 0 (stateIn owesTen) (r .no-own-rows) (ap code (r .without)) (ap code (r .with-own)) in
+    let h = claim (tablesIn owesTen) (ownRowA (5 is pos 1)) 0 (stateIn owesTen) (r .no-own-rows) (ap code (r .without)) (ap code (r .with-own)) in
     omega (ints, ap limit (r .without), ap limit (r .with-own))

@@ -22,7 +22,7 @@ use Rattle.engine.specs.State.{State}
 use Rattle.engine.specs.Refused.{moveStands, orderStands}
 use Rattle.engine.specs.Calls.{outcomeOf, opening, rolling, moving, ordering}
 use Rattle.engine.specs.Report.{reportOf}
-use Rattle.promises.specs.Sums.{Sum, _is_, written, stateIn, tablesIn, sum, said}
+use Rattle.promises.specs.Sums.{Entry, _is_, written, Sum, stateIn, tablesIn, sum, remark, said}
 
 -- ---- a call's code beside the table check's: where the book has its length, what the check refuses the call refuses alike, whatever the account and the
 -- other numbers are; and it answers 13 only where the check does
@@ -39,8 +39,7 @@ pub record OwnRowsAsked : Type 0 where
   pub opens : (i : ℕ) (kind : ℤ) (s : State) → outcomeOf (opening i kind) s .code ≢ laxerOwnRow
   pub rolls : (i : ℕ) (s : State) → outcomeOf (rolling i) s .code ≢ laxerOwnRow
 
--- ---- not promised: that own rows which pass the check never raise a limit. An account that owes ten of asset 0 as collateral has −132,000 under row A; an
--- own row that sets special delivery makes it 0, since collateral then does not count (4.10)
+-- ---- not promised: that own rows which pass the check never raise a limit
 abbrev pub withOwn : Tables → List ℤ → Tables
 withOwn tables own = record { clearing = tables .clearing; own = own; groups = tables .groups }
 
@@ -52,14 +51,20 @@ NeverRaises = (tables : Tables) (own : List ℤ) (i : ℕ) (s : State) → allZe
 abbrev pub CanRaise : Type 0
 CanRaise = NeverRaises → ⊥
 
+-- an own row A for asset 0 with one number changed, and the report with it and without
+abbrev pub ownRowA : Entry → List ℤ
+ownRowA entry = written rowA (entry ∷ []) ++ replicate 960 (pos 0)
+
+pub record RaisedBy (s : Sum) (entry : Entry) (result : List ℤ) : Type 0 where
+  pub no-own-rows : allZero (tablesIn s .own) ≡ true
+  pub without : said (reportOf (tablesIn s) 0 (stateIn s)) ≡ pos 0 ∷ s .result
+  pub with-own : said (reportOf (withOwn (tablesIn s) (ownRowA entry)) 0 (stateIn s)) ≡ pos 0 ∷ result
+
+-- an account that owes ten of asset 0 as collateral: where special delivery is set collateral does not count (4.10), a debt no more than a holding
 abbrev pub owesTen : Sum
 owesTen = sum [] 1 (collateralAt 0 is less 10 ∷ []) (less 100000 ∷ pos 30000 ∷ pos 2000 ∷ pos 0 ∷ less 132000 ∷ [])
 
-abbrev pub specially : List ℤ
-specially = written rowA (5 is pos 1 ∷ []) ++ replicate 960 (pos 0)
-
--- what is computed of it
+-- and S2's holding in a pool: a pool share of 10,000 leaves it the acceptance share, 5,000, and one of 9,000 is in force itself (2.4.1)
 pub record Raised : Type 0 where
-  pub no-own-rows : allZero (tablesIn owesTen .own) ≡ true
-  pub without : said (reportOf (tablesIn owesTen) 0 (stateIn owesTen)) ≡ pos 0 ∷ owesTen .result
-  pub with-own : said (reportOf (withOwn (tablesIn owesTen) specially) 0 (stateIn owesTen)) ≡ replicate 6 (pos 0)
+  pub by-special-delivery : RaisedBy owesTen (5 is pos 1) (replicate 5 (pos 0))
+  pub by-pool-share : RaisedBy remark (3 is pos 9000) (pos 360000 ∷ pos 72000 ∷ pos 3600 ∷ pos 0 ∷ pos 284400 ∷ [])

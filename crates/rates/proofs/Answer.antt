@@ -1,21 +1,22 @@
 -- The four answers of the table check: when each is given, and what each says. From code 2: the place that is named is broken, and no place before it; from
 -- code 13: no place is broken, the place that is named is laxer, and none of the own table before it.
 -- Assumes nothing.
-use mathlib.Core.Path.{_≡_, refl}
+use mathlib.Core.Path.{_≡_, refl, ap}
 use mathlib.Core.Bool.{Bool, true, false, not}
-use mathlib.Core.List.{List, [], _∷_}
-use Prim.Native.Nat.{ℕ, _≤_, _<_}
+use mathlib.Core.List.{[], _∷_}
+use Prim.Native.Nat.{ℕ, _+_, _≤_, _<_}
 use native.Mathlib.Omega.{arith}
 use borrow.Author.Tests.{not-false}
-use Rattle.whole.specs.Marks.{firstFalse, placeFrom, allTrue}
+use Rattle.whole.specs.Marks.{firstFalse, placeFrom}
 use Rattle.whole.specs.Refusals.{_gives_, firstCode, wrongLength, brokenNumber, laxerOwnRow}
 use Rattle.whole.proofs.Marks.{true-before, false-at, all-of, not-all-of, some-false}
+use Rattle.whole.proofs.Pieces.{in-piece}
 use Rattle.whole.proofs.Refusals.{none-holds}
-use Rattle.rates.specs.Units.{tableLength}
+use Rattle.rates.specs.Units.{assets, rowLength, tableLength}
 use Rattle.rates.specs.Lent.{Tables}
-use Rattle.rates.specs.Tables.{tableMarks, stricterMarks, lengthsRight, soundTables, onlyStricter, tableRefusals, checkCode, checkPlace, checked, FirstBroken, PlaceIsFirst, LaxerIsFirst}
+use Rattle.rates.specs.Tables.{tableMarks, stricterAt, stricterMarks, lengthsRight, soundTables, onlyStricter, tableRefusals, checkCode, checkPlace, checked, PlaceIsFirst, LaxerIsFirst}
 use Rattle.rates.specs.declared.tables.Checked.{Checked}
-use Rattle.rates.proofs.Counts.{table-count, stricter-count}
+use Rattle.rates.proofs.Counts.{table-count, stricter-at-count, stricter-count}
 
 module _ (tables : Tables) where
   answer : {code place : ℕ} → code ≡ checkCode tables → place ≡ checkPlace tables
@@ -92,15 +93,28 @@ module _ (tables : Tables) where
       by true false o z = absurd (omega arith)
       by false s o z = absurd (omega arith)
 
-first-broken : (marks : List Bool) → allTrue marks ≡ false → FirstBroken marks (firstFalse marks)
-first-broken marks e = let h = some-false marks e in record { inside = h; broken = false-at marks h; right-before = true-before marks }
-
 pub place-is-first : PlaceIsFirst
 unfolding checkPlace soundTables
-place-is-first tables e = rw e (first-broken (tableMarks tables) (code-2-says tables e))
+place-is-first tables e =
+    let marks = tableMarks tables in
+    let h = some-false marks (code-2-says tables e) in
+    rw e (record { inside = h; broken = false-at marks h; right-before = true-before marks })
 
 pub laxer-is-first : LaxerIsFirst
 unfolding checkPlace onlyStricter placeFrom
 laxer-is-first tables e =
     let said = code-13-says tables e in
-    record { lengths = said .0; none-broken = said .1; at = firstFalse (stricterMarks tables); place-is = rw e refl; first = first-broken (stricterMarks tables) (said .2) }
+    let row = stricterAt (tables .clearing) (tables .own) in
+    let w = in-piece row rowLength assets (stricter-at-count (tables .clearing) (tables .own)) (omega (arith, some-false (stricterMarks tables) (said .2), stricter-count tables)) in
+    record {
+      lengths = said .0;
+      none-broken = said .1;
+      asset = w .piece;
+      number = w .mark;
+      an-asset = w .inside;
+      a-number = w .within-piece;
+      place-is = rw e (ap (λ (n : ℕ). tableLength + n) (w .place-is));
+      laxer = w .false-there;
+      numbers-before = w .marks-before;
+      rows-before = w .pieces-before;
+    }

@@ -102,7 +102,7 @@ unfoldable pub checked : Tables → Checked
 checked tables = record { code = checkCode tables; place = checkPlace tables }
 
 -- ---- statements, which proofs/Answer and proofs/OnlyStricter prove
--- the place is that of the first number that breaks its rule: the mark there is false, and each before it is true
+-- the place is the first broken one: the mark there is false, and each before it is true
 pub record FirstBroken (marks : List Bool) (place : ℕ) : Type 0 where
   pub inside : place < length marks
   pub broken : getD marks place true ≡ false
@@ -111,13 +111,19 @@ pub record FirstBroken (marks : List Bool) (place : ℕ) : Type 0 where
 abbrev pub PlaceIsFirst : Type 0
 PlaceIsFirst = (tables : Tables) → checkCode tables ≡ brokenNumber → FirstBroken (tableMarks tables) (checkPlace tables)
 
--- code 13: the lengths are right, no number is broken, and the place is that of the own table's first laxer number
+-- code 13: the lengths are right, no number is broken, and the place is that of the first laxer number: of an asset's own row, with none laxer before it
+-- in that row, nor in the own rows before
 pub record Laxer (tables : Tables) : Type 0 where
   pub lengths : lengthsRight tables ≡ true
   pub none-broken : soundTables tables ≡ true
-  pub at : ℕ
-  pub place-is : checkPlace tables ≡ tableLength + at
-  pub first : FirstBroken (stricterMarks tables) at
+  pub asset : ℕ
+  pub number : ℕ
+  pub an-asset : asset < assets
+  pub a-number : number < rowLength
+  pub place-is : checkPlace tables ≡ tableLength + (rowLength * asset + number)
+  pub laxer : getD (stricterAt (tables .clearing) (tables .own) asset) number true ≡ false
+  pub numbers-before : (k : ℕ) → k < number → getD (stricterAt (tables .clearing) (tables .own) asset) k true ≡ true
+  pub rows-before : (a : ℕ) → a < asset → allTrue (stricterAt (tables .clearing) (tables .own) a) ≡ true
 
 abbrev pub LaxerIsFirst : Type 0
 LaxerIsFirst = (tables : Tables) → checkCode tables ≡ laxerOwnRow → Laxer tables

@@ -3,7 +3,7 @@ ghost use Prim.Native.Nat.{_<_};
 ghost use lib.ListN.{length};
 ghost use Rattle.whole.specs.Parts.{number};
 ghost use Rattle.whole.specs.Bounds.{equal};
-ghost use Rattle.whole.specs.Marks.{firstFalse, placeFrom, allTrue, pieces};
+ghost use Rattle.whole.specs.Marks.{firstFalse, placeFrom, pieces};
 ghost use Rattle.rates.specs.Units.{rowLength, dates};
 ghost use Rattle.rates.specs.Row.{ratesAt, limitsAt, datesAt};
 ghost use Rattle.rates.specs.Stricter.{_noGreater_, _noSmaller_, stricterTerms, stricterRates, stricterLimits, stricterDate, stricterRow};
@@ -122,19 +122,6 @@ fn laxer_date(own: &[i64], clearing: &[i64], d: usize) -> usize
     in_row::DATE_LENGTH
 }
 
-// Whether date d is stricter: asked of every date of a present own row, and so with no branch between its five numbers.
-fn date_stricter(own: &[i64], clearing: &[i64], d: usize) -> bool
-    requires { ⌜ (length (now own) ≡ rowLength) × (length (now clearing) ≡ rowLength) × (d < dates) ⌝ }
-    ensures { λ r. ⌜ r ≡ allTrue (stricterDate (now (own .entry)) (now (clearing .entry)) d) ⌝ }
-{
-    let mid = in_row::DATES + in_row::DATE_LENGTH * d;
-    same(own, clearing, mid)
-        & no_greater(own, clearing, mid + in_row::LOW)
-        & no_smaller(own, clearing, mid + in_row::UP)
-        & no_greater(own, clearing, mid + in_row::OUTER_LOW)
-        & no_smaller(own, clearing, mid + in_row::OUTER_UP)
-}
-
 // The first laxer number of the eight dates, or the place past the last of them.
 fn laxer_dates(own: &[i64], clearing: &[i64]) -> usize
     requires { ⌜ (length (now own) ≡ rowLength) × (length (now clearing) ≡ rowLength) ⌝ }
@@ -142,8 +129,9 @@ fn laxer_dates(own: &[i64], clearing: &[i64]) -> usize
 {
     let mut d = 0;
     while d < units::DATE_COUNT {
-        if !date_stricter(own, clearing, d) {
-            return in_row::DATES + in_row::DATE_LENGTH * d + laxer_date(own, clearing, d);
+        let laxer = laxer_date(own, clearing, d);
+        if laxer < in_row::DATE_LENGTH {
+            return in_row::DATES + in_row::DATE_LENGTH * d + laxer;
         }
         d += 1;
     }

@@ -12,6 +12,7 @@ pub mod Parts
 pub mod Laid
 pub mod Tests
 pub mod Marks
+pub mod Pieces
 pub mod Refusals
 pub mod Tabulated
 pub mod Lists
