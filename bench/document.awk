@@ -1,5 +1,6 @@
 # Makes docs/BENCHMARKS.md of what bench-calls printed with overflow checks on and off, and of the session programs. The environment has
-# the rest. Lines: speed NAME LISTED ENGINE SECOND RATIO LEAST GREATEST; cost NAME LISTED then ratio, least, greatest of both sides.
+# the rest. Lines: speed NAME LISTED ENGINE SECOND RATIO LEAST GREATEST; cost NAME LISTED then ratio, least, greatest of both sides; own NAME
+# ROWS ENGINE SECOND RATIO LEAST GREATEST then ratio, least, greatest of both sides to no own rows.
 BEGIN { FS = "\t"; most = 1.2; first_ground = "order admitted" }
 
 FNR == 1 { file++ }
@@ -24,6 +25,17 @@ $1 == "cost" && file == 1 {
     costs[++orders] = "| " $2 " | " $3 " | " spread($4, $5, $6) " | " spread($7, $8, $9) " |"
     if ($2 == first_ground) asked++
     if ($2 == first_ground && $4 > most) dear = dear "; with " assets($3) " (" $4 ")"
+}
+
+$1 == "own" {
+    key = $2 SUBSEP $3
+    if (file == 1) {
+        own_keys[++owns] = key
+        own_times[key] = "| " $2 " | " $3 " | " micro($4) " | " micro($5)
+        own_costs[key] = spread($9, $10, $11) " | " spread($12, $13, $14)
+    }
+    own_ratio[key, file] = spread($6, $7, $8)
+    if ($6 < 1) short[file] = short[file] "; " $2 " with " $3 " own rows (" $6 ")"
 }
 
 function spread(middle, least, greatest) { return middle " (" least " to " greatest ")" }
@@ -81,6 +93,17 @@ function prices(    n) {
     for (n = 1; n <= orders; n++) print costs[n]
 }
 
+function own_rows(    n, key) {
+    print "\n## What own rows cost\n"
+    print "With 16 assets listed and held and own rows over none, five and all of them: microseconds a call, engine ÷ second, and each side against the same call without own rows. Every own row is compared with its clearing row, and is in force.\n"
+    print "| call | own rows | engine | second | engine ÷ second | without overflow checks | engine, to none | second, to none |"
+    print "|---|---|---|---|---|---|---|---|"
+    for (n = 1; n <= owns; n++) {
+        key = own_keys[n]
+        print own_times[key] " | " own_ratio[key, 1] " | " own_ratio[key, 2] " | " own_costs[key] " |"
+    }
+}
+
 function verdict() {
     print "\n## Against the goal\n"
     print "The goal: nowhere slower than the second program, and an order that passes on the first ground at most " most " reports.\n"
@@ -93,10 +116,10 @@ function method() {
     print "\n## How it is measured\n"
     print "- Codes, figures and books of both are compared for every call of the input before a clock is started, and counted while it runs."
     print "- 15 rounds. In each, every call of both programs runs for at least 20 ms, and who goes first changes from round to round."
-    print "- The input (bench/src/input.rs): 16 open accounts of kinds 1 to 3, taken in turn; each listed asset held with collateral and with claims and obligations on every date. Rows of kinds 1 to 3, a third of them with an own row, special delivery, not recorded and partial ones, four spread groups and none. The first 1 and 4 assets have no special delivery among them, and the first has no own row."
+    print "- The input (bench/src/input.rs): 16 open accounts of kinds 1 to 3, taken in turn; each listed asset held with collateral and with claims and obligations on every date. Rows of kinds 1 to 3, special delivery, not recorded and partial ones, four spread groups and none. A third of them have an own row, stricter in shares, rates, concentration limits, lows and ups, where nothing else is said. The first 1 and 4 assets have no special delivery among them, and the first has no own row."
     print "- Order admitted: the limits before and after are zero or more. Order refused: the limit before is, the limit after is negative. In trouble the same accounts owe rubles, so that each limit is negative before the order: a refused one buys for more than its units are worth or sells for nothing; an admitted one sells for more than they are worth, and the limit is still negative after it."
     print "- An admitted order is taken back by putting its two numbers of the book back, for both programs alike and inside the time. A refused one leaves the book as it is."
     print "- Session lines: the session program and `second-session` on one generated file of " grouped(ENVIRON["LINES"]) " lines, output thrown away; starting the programs is counted."
 }
 
-END { origin(); speeds(); growth(); prices(); verdict(); method() }
+END { origin(); speeds(); growth(); prices(); own_rows(); verdict(); method() }

@@ -1,7 +1,7 @@
 //! The tables, books and orders that both programs get. Every listed asset has another row and every account another block, so
-//! that no branch goes the same way for long: kinds 1 to 3, own rows over some assets, special delivery, not recorded, partial,
-//! shares of 0 and of the whole, several spread groups, positions of either sign, above and below the concentration limits.
-//! In trouble the accounts hold the same assets and owe rubles.
+//! that no branch goes the same way for long: kinds 1 to 3, own rows over none, a third or all of the assets, special delivery,
+//! not recorded, partial, shares of 0 and of the whole, several spread groups, positions of either sign, above and below the
+//! concentration limits. In trouble the accounts hold the same assets and owe rubles.
 
 use second::block::{CLAIMS, COLLATERAL, NETS, OBLIGATIONS, RUBLES, holding_start};
 use second::calls::{BUY, Order, SELL};
@@ -18,6 +18,31 @@ const RUBLES_OWED: i64 = -2_000_000_000;
 /// An order of so few units for so much money: the money decides whether it lowers or raises the limit.
 const FEW_UNITS: i64 = 3;
 const MONEY: i64 = 2_000_000;
+
+/// Over which of the listed assets an own row stands: of sixteen, over none, five or all.
+#[derive(Clone, Copy)]
+pub enum Owned {
+    None,
+    Third,
+    All,
+}
+
+impl Owned {
+    pub const EACH: [Owned; 3] = [Owned::None, Owned::Third, Owned::All];
+
+    fn covers(self, asset: usize) -> bool {
+        match self {
+            Owned::None => false,
+            Owned::Third => asset % 3 == 1,
+            Owned::All => true,
+        }
+    }
+
+    /// How many own rows there are.
+    pub fn rows(self, listed: usize) -> usize {
+        (0..listed).filter(|&asset| self.covers(asset)).count()
+    }
+}
 
 pub struct Input {
     pub tables: Tables,
@@ -48,11 +73,11 @@ pub struct Orders {
 
 impl Input {
     /// With the first `listed` assets listed, and each of them held in every account.
-    pub fn new(listed: usize) -> Input {
+    pub fn new(listed: usize, owned: Owned) -> Input {
         let healthy = book(listed, RUBLES_HELD);
         let troubled = book(listed, RUBLES_OWED);
         Input {
-            tables: Tables::new(listed),
+            tables: Tables::new(listed, owned),
             admitted: Orders::new(&healthy, 0, |number| order(number, listed, FEW_UNITS, MONEY)),
             refused: Orders::new(&healthy, 10, |number| refused(number, listed)),
             trouble_refused: Orders::new(&troubled, 10, |number| lowering(number, listed)),
@@ -63,15 +88,16 @@ impl Input {
 }
 
 impl Tables {
-    fn new(listed: usize) -> Tables {
+    fn new(listed: usize, owned: Owned) -> Tables {
         let groups = (0..GROUPS as i64).map(|group| 10 + 5 * group).collect();
         let mut tables = Tables { clearing: vec![0; TABLE], own: vec![0; TABLE], groups };
         for asset in 0..listed {
             let place = ROW * asset..ROW * (asset + 1);
-            write_row(&mut tables.clearing[place.clone()], asset as i64, 0);
-            // An own row stands over five of the sixteen assets, with other numbers than the clearing row's.
-            if asset % 3 == 1 {
-                write_row(&mut tables.own[place], asset as i64, 7);
+            write_row(&mut tables.clearing[place.clone()], asset as i64);
+            if owned.covers(asset) {
+                let own = &mut tables.own[place.clone()];
+                own.copy_from_slice(&tables.clearing[place]);
+                tighten(own);
             }
         }
         tables
@@ -89,11 +115,11 @@ impl Orders {
     }
 }
 
-/// A row that keeps every rule; `more` makes the own row differ from the clearing row.
-fn write_row(numbers: &mut [i64], asset: i64, more: i64) {
+/// A row that keeps every rule.
+fn write_row(numbers: &mut [i64], asset: i64) {
     let kind = 1 + asset % 3;
-    let price = 5_000 + 1_370 * asset + 11 * more;
-    let fall = 1_200 + 90 * asset + more;
+    let price = 5_000 + 1_370 * asset;
+    let fall = 1_200 + 90 * asset;
     let rise = if kind == row::COMMODITY { fall } else { fall + 300 };
     numbers[row::KIND] = kind;
     numbers[row::PRICE] = price;
@@ -109,10 +135,27 @@ fn write_row(numbers: &mut [i64], asset: i64, more: i64) {
     numbers[row::INTEREST_LIMIT] = 100 + 60 * (asset % 5);
     numbers[row::GROUP] = asset % 5;
     for date in 0..DATES as i64 {
-        let mid = 40 * date - 90 + asset + more;
+        let mid = 40 * date - 90 + asset;
         let five = [mid, mid - 30 - date, mid + 25 + asset, mid - 70 - 2 * date, mid + 80 + 2 * asset];
         let start = date_start(date as usize);
         numbers[start..start + row::DATE].copy_from_slice(&five);
+    }
+}
+
+/// Makes of a clearing row an own row that is stricter in shares, rates, concentration limits, lows and ups. Special delivery
+/// stays, so that own rows do not change which work there is.
+fn tighten(numbers: &mut [i64]) {
+    for place in [row::ACCEPTANCE_SHARE, row::POOL_SHARE, row::MARKET_LIMIT, row::INTEREST_LIMIT] {
+        numbers[place] -= numbers[place] / 10;
+    }
+    for place in [row::FALL, row::RISE, row::RAISED_FALL, row::RAISED_RISE] {
+        numbers[place] += 70;
+    }
+    for date in 0..DATES {
+        let start = date_start(date);
+        for (of_date, further) in [(row::LOW, -5), (row::UP, 5), (row::OUTER_LOW, -10), (row::OUTER_UP, 10)] {
+            numbers[start + of_date] += further;
+        }
     }
 }
 

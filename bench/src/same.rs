@@ -3,7 +3,9 @@
 
 use second::calls::{self, Order, code};
 use second::limit::Figures;
-use second::units::ACCOUNTS;
+use second::row::{OUTER_UP, date_start};
+use second::tables::{Lent, own_place};
+use second::units::{ACCOUNTS, DATES, ROW, TABLE};
 
 use crate::engine::{self, Five};
 use crate::input::{Input, Orders, Tables};
@@ -21,6 +23,10 @@ pub fn check(input: &Input) {
     check_orders(tables, trouble_refused, |before, _| before < 0);
     check_orders(tables, trouble_admitted, |before, after| before < after && after < 0);
     check_broken(tables);
+    if let Some(last) = tables.own.iter().rposition(|&number| number != 0) {
+        check_in_force(tables, book);
+        check_laxer(tables, last / ROW);
+    }
 }
 
 /// An account's limit, by both programs' reports.
@@ -61,7 +67,28 @@ fn booked(tables: &Tables, orders: &Orders, order: &Order) -> Vec<i64> {
 fn check_broken(tables: &Tables) {
     let mut groups = tables.groups.clone();
     *groups.last_mut().expect("eight groups") = 51;
-    let lent = second::tables::Lent { groups: &groups, ..tables.lent() };
+    let lent = Lent { groups: &groups, ..tables.lent() };
     assert_eq!(engine::check_tables(&lent), (2, 2055), "the engine's place");
     assert_eq!(calls::check_tables(&lent), (2, 2055), "the second program's place");
+}
+
+/// Without own rows every account's figures are others.
+fn check_in_force(tables: &Tables, book: &[i64]) {
+    let absent = [0; TABLE];
+    let without = Lent { own: &absent, ..tables.lent() };
+    for account in 0..ACCOUNTS as i64 {
+        let [with, without] = [&tables.lent(), &without].map(|lent| calls::report(book, lent, account));
+        assert!(with != without, "own rows without a difference for account {account}");
+    }
+}
+
+/// The last number of the last own row, made laxer, shows that both really compare all of them.
+fn check_laxer(tables: &Tables, asset: usize) {
+    let number = date_start(DATES - 1) + OUTER_UP;
+    let mut own = tables.own.clone();
+    own[ROW * asset + number] = tables.clearing[ROW * asset + number] - 1;
+    let lent = Lent { own: &own, ..tables.lent() };
+    let wanted = (13, own_place(asset, number));
+    assert_eq!(engine::check_tables(&lent), wanted, "the engine's place");
+    assert_eq!(calls::check_tables(&lent), wanted, "the second program's place");
 }

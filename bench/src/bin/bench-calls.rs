@@ -1,42 +1,60 @@
-//! Times the calls, for 1, 4 and 16 listed assets. Lines on standard output, tab-separated: `speed` (rounds.rs) and `cost`, what
-//! an order costs in reports of accounts that hold the same assets.
+//! Times the calls, for 1, 4 and 16 listed assets, and three of them for 16 assets with 0, 5 and 16 own rows. Lines on standard
+//! output, tab-separated: `speed` (rounds.rs); `cost`, what an order costs in reports of accounts that hold the same assets; `own`,
+//! what a call costs by the count of own rows.
 
-use bench::input::Input;
+use bench::input::{Input, Owned};
 use bench::rounds::{self, ROUNDS, Times};
 use bench::same;
 use bench::work::{CALLS, COUNT, Call, Side};
 
+/// What own rows are measured in.
+const WITH_OWN_ROWS: [Call; 3] = [Call::CheckTables, Call::Report, Call::OrderAdmitted];
+/// The assets listed there.
+const LISTED: usize = 16;
+
 fn main() {
     for listed in [1, 4, 16] {
-        let mut input = Input::new(listed);
-        same::check(&input);
-        let times = measure(&mut input);
+        let mut inputs = [Input::new(listed, Owned::Third)];
+        inputs.iter().for_each(same::check);
+        let [times] = measure(&mut inputs, CALLS);
         for (call, [engine, second]) in CALLS.iter().zip(&times) {
             rounds::print(call.name(), listed, engine, second);
         }
         print_costs(listed, &times);
     }
+    let mut inputs = Owned::EACH.map(|owned| Input::new(LISTED, owned));
+    inputs.iter().for_each(same::check);
+    print_own_rows(&measure(&mut inputs, WITH_OWN_ROWS));
 }
 
-/// Of each call the times of engine and second.
-fn measure(input: &mut Input) -> [[Times; 2]; COUNT] {
-    let counts = CALLS.map(|call| {
-        let sides = [Side::Engine, Side::Second];
-        sides.map(|side| rounds::enough(|count| timed(call, side, input, count))).into_iter().max().expect("two sides")
-    });
-    let mut times = [const { [const { Times::new() }; 2] }; COUNT];
+/// Of each input and each call the times of engine and second; in each round every call of every input runs once.
+fn measure<const INPUTS: usize, const N: usize>(
+    inputs: &mut [Input; INPUTS],
+    calls: [Call; N],
+) -> [[[Times; 2]; N]; INPUTS] {
+    let counts = inputs.each_mut().map(|input| calls.map(|call| enough(call, input)));
+    let mut times = [const { [const { [const { Times::new() }; 2] }; N] }; INPUTS];
     for round in 0..ROUNDS {
-        for (at, call) in CALLS.into_iter().enumerate() {
-            // Who goes first changes from round to round.
-            for turn in 0..2 {
-                let second = (round + turn) % 2;
-                let side = [Side::Engine, Side::Second][second];
-                let took = rounds::seconds(|| timed(call, side, input, counts[at]));
-                times[at][second].push(took / counts[at] as f64);
+        for (of_input, input) in inputs.iter_mut().enumerate() {
+            for (at, call) in calls.into_iter().enumerate() {
+                // Who goes first changes from round to round.
+                for turn in 0..2 {
+                    let second = (round + turn) % 2;
+                    let side = [Side::Engine, Side::Second][second];
+                    let count = counts[of_input][at];
+                    let took = rounds::seconds(|| timed(call, side, input, count));
+                    times[of_input][at][second].push(took / count as f64);
+                }
             }
         }
     }
     times
+}
+
+/// So many calls that neither side is done too soon.
+fn enough(call: Call, input: &mut Input) -> usize {
+    let sides = [Side::Engine, Side::Second];
+    sides.map(|side| rounds::enough(|count| timed(call, side, input, count))).into_iter().max().expect("two sides")
 }
 
 fn timed(call: Call, side: Side, input: &mut Input, count: usize) {
@@ -53,5 +71,23 @@ fn print_costs(listed: usize, times: &[[Times; 2]; COUNT]) {
             print!("\t{middle:.2}\t{least:.2}\t{greatest:.2}");
         }
         println!();
+    }
+}
+
+/// Each against the same call without own rows, in the same rounds.
+fn print_own_rows(times: &[[[Times; 2]; WITH_OWN_ROWS.len()]; Owned::EACH.len()]) {
+    for (owned, of_input) in Owned::EACH.iter().zip(times) {
+        for (at, call) in WITH_OWN_ROWS.iter().enumerate() {
+            let [engine, second] = &of_input[at];
+            let [faster, least, greatest] = rounds::ratio(engine, second);
+            let [per_engine, per_second] = [engine, second].map(|side| 1.0 / rounds::median(side));
+            print!("own\t{}\t{}\t{per_engine:.0}\t{per_second:.0}", call.name(), owned.rows(LISTED));
+            print!("\t{faster:.2}\t{least:.2}\t{greatest:.2}");
+            for side in 0..2 {
+                let [middle, least, greatest] = rounds::ratio(&times[0][at][side], &of_input[at][side]);
+                print!("\t{middle:.2}\t{least:.2}\t{greatest:.2}");
+            }
+            println!();
+        }
     }
 }
