@@ -142,8 +142,8 @@ fn write_row(numbers: &mut [i64], asset: i64) {
     }
 }
 
-/// Makes of a clearing row an own row that is stricter in shares, rates, concentration limits, lows and ups. Special delivery
-/// stays, so that own rows do not change which work there is.
+/// Makes of a clearing row an own row that is stricter in shares that are not 0, rates, concentration limits, lows and ups.
+/// Special delivery stays, so that own rows do not change which work there is.
 fn tighten(numbers: &mut [i64]) {
     for place in [row::ACCEPTANCE_SHARE, row::POOL_SHARE, row::MARKET_LIMIT, row::INTEREST_LIMIT] {
         numbers[place] -= numbers[place] / 10;

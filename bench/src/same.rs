@@ -82,7 +82,7 @@ fn check_in_force(tables: &Tables, book: &[i64]) {
     }
 }
 
-/// The last number of the last own row, made laxer, shows that both really compare all of them.
+/// The last number that is compared, of the last own row, made laxer: both look to the end.
 fn check_laxer(tables: &Tables, asset: usize) {
     let number = date_start(DATES - 1) + OUTER_UP;
     let mut own = tables.own.clone();

@@ -1,5 +1,5 @@
-/* Rows by the names of include/single_limit.h: every number of a row is broken at its edge and found again by its name, every number of an own row is
- * made laxer by a step and found again, and a row with a kind and a price alone is sound. Says nothing and returns 0 where all is as named. */
+/* Rows by the names of include/single_limit.h: every number of a row is broken at its edge and found again by its name, every number of an own row that
+ * is compared is made laxer by a step and found again, and a row with a kind and a price alone is sound. Says nothing and returns 0 where all is as named. */
 #include "start.h"
 
 /* A number at the edge of its rule is sound, one step beyond it breaks at its place. Where it is an own row's, the clearing row has the sound one

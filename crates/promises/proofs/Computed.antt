@@ -38,7 +38,8 @@ pub record Computed : Type 0 where
 pub computed : Computed
 unfolding written zeros added moveAt minℤ maxℤ absℤ dividedDown dividedUp between Σ< part put tabulated allTrue pieces allZero firstCode leaves termMarks
     rateMarks limitMarks dateMarks listedMarks rowMarks listed ownKindRight ownRowMarks clearingMarks ownMarks tableMarks lengthsRight soundTables
-    stricterTerms stricterRates stricterLimits stricterDate stricterRow stricterOwnRow stricterAt onlyStricter inForce highestRate outerWidth coverTest headMarks holdingRight every inBounds goodBlock holdsListed poolShareInForce shareByKind regimeOf counted
+    stricterTerms stricterRates stricterLimits stricterDate stricterRow stricterOwnRow stricterAt onlyStricter
+    inForce highestRate outerWidth coverTest headMarks holdingRight every inBounds goodBlock holdsListed poolShareInForce shareByKind regimeOf counted
     net trades adjustedCollateral position leftOut valuedCollateral worthOf assetUnder charge unitsCharge marketCharge sideRisk positionSum longSum
     shortSum marketRisk fallCharge riseCharge interestOf interestRisk longRisk shortRisk groupOf partOf inGroup byGroup totalsOf discountOf discount
     singleLimit figuresOf rublesOf partIn blockFigures moneyOf traded atAccount enough raised admitted judgedTrade ordering outcomeOf reportOf

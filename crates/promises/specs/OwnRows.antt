@@ -1,7 +1,7 @@
 -- Document 02, #103, of the calls. "New code 13, straight after code 2 and before 3": a call that is lent tables answers what the table check answers
 -- before it looks at the account; open and roll, which are lent none, never answer 13. What the check asks of own rows, and that it asks for nothing else,
--- is stated in rates (specs/Tables, StricterPasses and LaxerIsFirst). And what is not promised: a stricter own row can raise the limit. Each is a type,
--- proved in proofs/.
+-- is stated in rates (specs/Tables, StricterPasses and LaxerIsFirst); that a feed's code is the report's, in app_feed (specs/Promised). And what is not
+-- promised: a stricter own row can raise the limit. Each is a type, proved in proofs/.
 -- Assumes nothing.
 use mathlib.Core.Path.{_≡_}
 use mathlib.Core.Bool.{true}

@@ -6,5 +6,5 @@ pub mod Ranges
 pub mod CoverTest
 pub mod Lookup
 pub mod Sound
-pub mod OnlyStricter
+pub mod EachStricter
 pub mod Examples

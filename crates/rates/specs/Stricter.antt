@@ -15,7 +15,7 @@ use Rattle.whole.specs.Marks.{pieces}
 use Rattle.rates.specs.Units.{dates}
 use Rattle.rates.specs.Row.{price, acceptanceShare, poolShare, coveredSales, specialDelivery, fall, rise, baseRate, raisedRate, marketLimit, interestLimit, spreadGroup, mid, low, up, outerLow, outerUp}
 
--- the own row's number stands first
+-- two tests; the own row's number stands first
 infix 90 _noGreater_
 abbrev pub _noGreater_ : ℤ → ℤ → Bool
 x noGreater y = leZ x y

@@ -101,7 +101,7 @@ checkPlace tables =
 unfoldable pub checked : Tables → Checked
 checked tables = record { code = checkCode tables; place = checkPlace tables }
 
--- ---- statements, which proofs/Answer and proofs/OnlyStricter prove
+-- ---- statements, which proofs/Answer and proofs/EachStricter prove
 -- the place is the first broken one: the mark there is false, and each before it is true
 pub record FirstBroken (marks : List Bool) (place : ℕ) : Type 0 where
   pub inside : place < length marks
@@ -129,10 +129,10 @@ abbrev pub LaxerIsFirst : Type 0
 LaxerIsFirst = (tables : Tables) → checkCode tables ≡ laxerOwnRow → Laxer tables
 
 -- each present own row is stricter than its clearing row, by name
-abbrev pub OnlyStricter : Tables → Type 0
-OnlyStricter tables = (a : ℕ) → a < assets → absent (rowOf (tables .own) a) ≡ false → Stricter (rowOf (tables .own) a) (rowOf (tables .clearing) a)
+abbrev pub EachStricter : Tables → Type 0
+EachStricter tables = (a : ℕ) → a < assets → absent (rowOf (tables .own) a) ≡ false → Stricter (rowOf (tables .own) a) (rowOf (tables .clearing) a)
 
 -- code 0 says so; and back, sound tables of which that holds answer 0, so that the marks ask for nothing else
 pub record StricterPasses : Type 0 where
-  pub says : (tables : Tables) → checkCode tables ≡ 0 → OnlyStricter tables
-  pub asks-no-more : (tables : Tables) → lengthsRight tables ≡ true → soundTables tables ≡ true → OnlyStricter tables → checkCode tables ≡ 0
+  pub says : (tables : Tables) → checkCode tables ≡ 0 → EachStricter tables
+  pub asks-no-more : (tables : Tables) → lengthsRight tables ≡ true → soundTables tables ≡ true → EachStricter tables → checkCode tables ≡ 0

@@ -12,7 +12,7 @@ use crate::row;
 use crate::units;
 
 // An own row may only be stricter than its clearing row (document 02, #103): where its first laxer number stands. As in `row`, each part answers the place
-// past its last number where none of it is laxer. Numbers are compared and nothing is added, so nothing overflows.
+// past its last number where none of it is laxer. The rows' numbers are only compared, so none overflows.
 
 // Whether number k is the clearing row's.
 fn same(own: &[i64], clearing: &[i64], k: usize) -> bool

@@ -38,8 +38,9 @@ line bytes = hexOf bytes ++ (newline ∷ [])
 document : session (line (2 ∷ 0 ∷ 1 ∷ []) ++ (line (3 ∷ 0 ∷ 255 ∷ n8 (pos 100000)) ++ hexOf (6 ∷ 0 ∷ [])))
     ≡ line (0 ∷ []) ++ (line (0 ∷ []) ++ line (0 ∷ (n8 (pos 100000) ++ (n8 (pos 0) ++ (n8 (pos 0) ++ (n8 (pos 0) ++ n8 (pos 100000)))))))
 unfolding line minℤ maxℤ absℤ dividedDown dividedUp between Σ< part put tabulated allTrue allZero every pieces firstCode leaves termMarks rateMarks
-    limitMarks dateMarks listedMarks rowMarks listed ownKindRight ownRowMarks clearingMarks ownMarks tableMarks lengthsRight soundTables stricterOwnRow stricterAt onlyStricter inForce
-    moveAt atAccount added opened moved mostOf leastAfter overdrawn headMarks holdingRight inBounds goodBlock holdsListed poolShareInForce shareByKind regimeOf
+    limitMarks dateMarks listedMarks rowMarks listed ownKindRight ownRowMarks clearingMarks ownMarks tableMarks lengthsRight soundTables
+    stricterOwnRow stricterAt onlyStricter inForce moveAt
+    atAccount added opened moved mostOf leastAfter overdrawn headMarks holdingRight inBounds goodBlock holdsListed poolShareInForce shareByKind regimeOf
     counted net trades adjustedCollateral position leftOut valuedCollateral worthOf assetUnder charge unitsCharge marketCharge sideRisk positionSum
     longSum shortSum marketRisk fallCharge riseCharge interestOf interestRisk longRisk shortRisk groupOf partOf inGroup byGroup totalsOf discountOf
     discount singleLimit figuresOf rublesOf partIn blockFigures placeOf enough outcomeOf opening moving judgedMove reportOf digitValue digitOf isHex

@@ -1,7 +1,7 @@
 -- Where the first false mark of pieces of one size stands: in which piece, and at which of its marks. Every piece before is true whole, and so is every
 -- mark before in its own piece.
 -- Assumes nothing.
-use mathlib.Core.Path.{_≡_, refl, ap, _∙_}
+use mathlib.Core.Path.{_≡_, refl, ap}
 use mathlib.Core.Bool.{Bool, true, false}
 use mathlib.Core.List.{List, _++_}
 use mathlib.Core.Logic.{⊎-elim}

@@ -28,8 +28,8 @@ use crate::limit::figures;
 use crate::tables::{Lent, Tables};
 use crate::units::*;
 
-/// Why a call is turned away; its number is the code. Checked in the order 1, 2, 13, 3, 6, 4, 5, 7, 8, 9,
-/// 10.
+/// Why a call is turned away; its number is the code. They are checked in the order 1, 2, 13, 3, 6, 4, 5, 7,
+/// 8, 9, 10.
 #[derive(Clone, Copy, Debug, PartialEq)]
 #[repr(u8)]
 pub enum Refusal {

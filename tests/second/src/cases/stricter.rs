@@ -76,7 +76,7 @@ fn reports(script: &mut Script) {
     script.report(BELOW_ZERO, SHORT);
 }
 
-/// The clearing row over again. Until it is all there it breaks, and that comes first; then all is as it was.
+/// The clearing row over again. Until it is all there it breaks or is laxer; then all is as it was.
 fn typed_in(script: &mut Script) {
     for (number, &value) in row_a().iter().enumerate().filter(|(_, value)| **value != 0) {
         own(script, number, value);

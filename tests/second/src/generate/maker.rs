@@ -96,13 +96,13 @@ impl Maker {
         self.session.lent().tables().expect("the session's tables have their lengths")
     }
 
-    /// They pass the table check.
-    pub fn tables_are_sound(&self) -> bool {
+    /// The table check passes.
+    pub fn tables_pass(&self) -> bool {
         let tables = self.tables();
         tables.first_broken().is_none() && tables.first_laxer().is_none()
     }
 
-    /// An account that is open, under sound tables, and all whose holdings are listed.
+    /// An account that is open, under tables that pass, and all whose holdings are listed.
     pub fn ready_account(&mut self) -> Option<usize> {
         self.account_with(|_| true)
     }

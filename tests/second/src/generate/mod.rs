@@ -1,5 +1,5 @@
 //! Session inputs that reach every rule of document 01, #101 and #103 of document 02 often: scenes, drawn by weight, that
-//! keep the tables sound most of the time. The same bytes for the same seed and count of lines.
+//! keep tables that pass the check most of the time. The same bytes for the same seed and count of lines.
 
 mod bounds;
 mod edges;

@@ -175,7 +175,8 @@ pub fn bounds_at(tables: &Tables, place: usize) -> Bounds {
     }
 }
 
-/// A number goes to one of its bounds and the numbers after it follow, sometimes the own row too. The tables stay sound.
+/// A number goes to one of its bounds and the numbers after it follow, sometimes the own row too. The tables pass the
+/// check afterwards.
 pub fn number_at_its_bound(maker: &mut Maker) {
     let Some((start, row)) = some_row(maker) else { return };
     let asset = start % TABLE / ROW;
@@ -193,7 +194,7 @@ pub fn number_at_its_bound(maker: &mut Maker) {
     }
     trades::probe(maker);
     let few = settled.iter().zip(&row).filter(|(now, before)| now != before).count() <= FEW;
-    if !maker.tables_are_sound() || (few && maker.random.percent(70)) {
+    if !maker.tables_pass() || (few && maker.random.percent(70)) {
         write(maker, start, &row);
         write(maker, own_place(asset, 0), &own);
     }

@@ -11,7 +11,7 @@ use crate::row::*;
 use crate::script::{Buffer, Buffers, Command};
 use crate::units::*;
 
-/// Of an account that holds listed assets under sound tables: as it is, at the edges, and without any risk.
+/// Of an account that holds listed assets under tables that pass: as it is, at the edges, and without any risk.
 pub fn gauges(maker: &mut Maker, wanted: &Buffers, account: usize) {
     let mut wanted = wanted.clone();
     around(maker, &mut wanted, account);

@@ -27,7 +27,7 @@ pub fn scene(maker: &mut Maker) {
     }
 }
 
-/// Sound tables, so many rows in a hundred listed and so many of those with an own row, which is stricter; and a feed
+/// Tables that pass the check, so many rows in a hundred listed and so many of those with an own row, which is stricter; and a feed
 /// that holds something.
 pub fn draw_tables(random: &mut Random, listed: i64, owned: i64) -> Buffers {
     let mut tables = Buffers::default();

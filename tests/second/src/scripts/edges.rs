@@ -7,7 +7,7 @@ use crate::limit::figures;
 use crate::script::{Buffers, Command};
 use crate::units::*;
 
-/// Of an account that holds listed assets under sound tables.
+/// Of an account that holds listed assets under tables that pass.
 pub fn of(maker: &mut Maker, wanted: &Buffers, account: usize) {
     let tables = wanted.tables().expect("right lengths");
     let assets: Vec<_> = (0..ASSETS).filter(|&asset| tables.is_listed(asset)).collect();

@@ -27,7 +27,7 @@ pub fn scene(maker: &mut Maker) {
     }
 }
 
-/// A clearing row none of whose numbers stands at a bound. A rise rate that is laxer alone is of no commodity.
+/// A clearing row of which no number but special delivery stands at a bound. A rise rate that is laxer alone is of no commodity.
 fn roomy(random: &mut Random, number: usize) -> Row {
     let kind = if [RISE, RAISED_RISE].contains(&number) { CURRENCY } else { COMMODITY };
     let kind = random.between(SECURITY, kind);
@@ -111,7 +111,7 @@ impl Place {
         for broken in
             [clearing_place(asset, last), own_place(asset, last), own_place(self.asset, in_row), group_place(group)]
         {
-            // Two of the four, seed by seed.
+            // Each one time in two.
             if maker.random.percent(50) {
                 let (buffer, number) = Buffer::of_place(broken);
                 let mut both = laxer.clone();

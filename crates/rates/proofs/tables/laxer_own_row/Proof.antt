@@ -1,5 +1,5 @@
 -- `rates::tables::laxer_own_row` meets its contract: a row that keeps its rules is absent exactly where it has no kind. Assumes nothing.
-use mathlib.Core.Path.{refl, sym, _∙_}
+use mathlib.Core.Path.{refl, _∙_}
 use borrow.Author.Needs.{needs}
 use Rattle.whole.specs.Marks.{firstFalse}
 use Rattle.whole.proofs.Tests.{passed, failed}

@@ -1,8 +1,7 @@
 -- `rates::tables::lengths_right` meets its contract: each length is asked where those before it are right. Assumes nothing.
-use mathlib.Core.Path.{refl, sym}
+use mathlib.Core.Path.{refl}
 use borrow.Author.Tests.{eq-eqb, ne-eqb}
 use Rattle.rates.specs.Tables.{lengthsRight}
-use Rattle.whole.proofs.Tests.{tests}
 use Rattle.rates.proofs.tables.lengths_right.Statement.{statement}
 use Rattle.rates.proofs.tables.lengths_right.Tie as tie
 

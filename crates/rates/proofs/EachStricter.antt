@@ -1,6 +1,6 @@
 -- An own row whose comparison has no false mark is stricter than its clearing row by name (specs/Stricter), and back; and so of whole tables, from code 0.
 -- Assumes nothing.
-use mathlib.Core.Path.{_≡_, refl, _∙_}
+use mathlib.Core.Path.{_≡_, refl}
 use mathlib.Core.Bool.{Bool, true, false}
 use mathlib.Core.List.{List}
 use mathlib.Core.Logic.{⊎-elim}
@@ -19,8 +19,7 @@ use Rattle.rates.specs.Units.{assets, dates}
 use Rattle.rates.specs.Row.{specialDelivery, baseRate, raisedRate}
 use Rattle.rates.specs.Stricter.{stricterTerms, stricterRates, stricterLimits, stricterDate, stricterRow, StricterDate, Stricter}
 use Rattle.rates.specs.Lent.{Tables}
-use Rattle.rates.specs.Tables.{rowOf, absent, stricterOwnRow, stricterAt, lengthsRight, soundTables, onlyStricter, checkCode, OnlyStricter, StricterPasses}
-use Rattle.rates.specs.Ranges.{RowRanges}
+use Rattle.rates.specs.Tables.{rowOf, absent, stricterOwnRow, stricterAt, lengthsRight, soundTables, onlyStricter, checkCode, EachStricter, StricterPasses}
 use Rattle.rates.proofs.Answer.{code-0-says, code-0-by}
 use Rattle.rates.proofs.Sound.{clearing-ranges, own-ranges}
 
@@ -126,14 +125,14 @@ module _ (own clearing : List ℤ) where
         (all-both (stricterLimits own clearing) _ limits-by (all-both (pieces (stricterDate own clearing) 0 dates) _ dates-by unasked)))
 
 -- ---- of whole tables
-says : (tables : Tables) → checkCode tables ≡ 0 → OnlyStricter tables
+says : (tables : Tables) → checkCode tables ≡ 0 → EachStricter tables
 unfolding onlyStricter stricterAt stricterOwnRow
 says tables passed a h present =
     let said = code-0-says tables passed in
     let marks = all-piece (stricterAt (tables .clearing) (tables .own)) 0 assets a (omega arith) (omega arith) (said .2) in
     stricter-says (rowOf (tables .own) a) (rowOf (tables .clearing) a) (rw present at marks) (own-ranges tables (said .1) a h (said .0) present .special-upto)
 
-asks-no-more : (tables : Tables) → lengthsRight tables ≡ true → soundTables tables ≡ true → OnlyStricter tables → checkCode tables ≡ 0
+asks-no-more : (tables : Tables) → lengthsRight tables ≡ true → soundTables tables ≡ true → EachStricter tables → checkCode tables ≡ 0
 unfolding onlyStricter stricterAt stricterOwnRow allTrue
 asks-no-more tables right sound only =
     code-0-by tables right sound (all-pieces (stricterAt (tables .clearing) (tables .own)) 0 assets (λ a h. row a (omega arith)))
