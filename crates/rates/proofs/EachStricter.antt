@@ -9,11 +9,11 @@ use native.Mathlib.Omega.{arith}
 use lib.IntN.{ℤ, pos}
 use lib.ListN.{replicate}
 use lib.Signed.{leZ, _≤ℤ_, _<ℤ_}
-use Rattle.whole.specs.Bounds.{equal, _upto_}
+use Rattle.whole.specs.Bounds.{_upto_}
 use Rattle.whole.specs.Marks.{allTrue, pieces}
 use Rattle.whole.proofs.Rules.{ints}
 use Rattle.whole.proofs.Numbers.{≤ℤ-antisym, <ℤ-or-≥ℤ}
-use Rattle.whole.proofs.Bounds.{between-yes, le-yes, equal-says}
+use Rattle.whole.proofs.Bounds.{le-yes, equal-says, equal-yes}
 use Rattle.whole.proofs.Marks.{all-at, all-left, all-right, all-piece, all-both, all-pieces}
 use Rattle.rates.specs.Units.{assets, dates}
 use Rattle.rates.specs.Row.{specialDelivery, baseRate, raisedRate}
@@ -25,9 +25,6 @@ use Rattle.rates.proofs.Sound.{clearing-ranges, own-ranges}
 
 le-says : {x y : ℤ} → leZ x y ≡ true → x ≤ℤ y
 le-says e = omega ints
-
-equal-by : {x y : ℤ} → x ≡ y → equal x y ≡ true
-equal-by e = between-yes (omega ints) (omega ints)
 
 -- ---- a number that is 0 or 1 and is kept where it is 1 is no smaller
 kept-says : {x y : ℤ} → x upto 1 → leZ y x ≡ true → y ≡ pos 1 → x ≡ pos 1
@@ -94,12 +91,12 @@ module _ (own clearing : List ℤ) where
     date-by : (d : ℕ) → d < dates → allTrue (stricterDate own clearing d) ≡ true
     unfolding stricterDate allTrue
     date-by d l = let t = s .date d l in
-        rw (equal-by (t .same-mid), le-yes (t .low-no-higher), le-yes (t .up-no-lower), le-yes (t .outer-low-no-higher), le-yes (t .outer-up-no-lower)) refl
+        rw (equal-yes (t .same-mid), le-yes (t .low-no-higher), le-yes (t .up-no-lower), le-yes (t .outer-low-no-higher), le-yes (t .outer-up-no-lower)) refl
 
     terms-by : specialDelivery own upto 1 → specialDelivery clearing upto 1 → allTrue (stricterTerms own clearing) ≡ true
     unfolding stricterTerms allTrue
     terms-by o c =
-        rw (equal-by (s .same-price), le-yes (s .acceptance-no-greater), le-yes (s .pool-no-greater), equal-by (s .same-sales), kept-by o c (s .special-kept)) refl
+        rw (equal-yes (s .same-price), le-yes (s .acceptance-no-greater), le-yes (s .pool-no-greater), equal-yes (s .same-sales), kept-by o c (s .special-kept)) refl
 
     rates-by : allTrue (stricterRates own clearing) ≡ true
     unfolding stricterRates allTrue
@@ -108,7 +105,7 @@ module _ (own clearing : List ℤ) where
 
     limits-by : allTrue (stricterLimits own clearing) ≡ true
     unfolding stricterLimits allTrue
-    limits-by = rw (le-yes (s .market-no-greater), le-yes (s .interest-no-greater), equal-by (s .same-group)) refl
+    limits-by = rw (le-yes (s .market-no-greater), le-yes (s .interest-no-greater), equal-yes (s .same-group)) refl
 
     dates-by : allTrue (pieces (stricterDate own clearing) 0 dates) ≡ true
     dates-by = all-pieces (stricterDate own clearing) 0 dates (λ d l. date-by d (omega arith))

@@ -80,6 +80,9 @@ between-same low x high low′ x′ high′ a b c d =
 pub equal-says : {x y : ℤ} → equal x y ≡ true → x ≡ y
 equal-says e = let a = amid e in ≤ℤ-antisym (a .to) (a .from)
 
+pub equal-yes : {x y : ℤ} → x ≡ y → equal x y ≡ true
+equal-yes {x} {y} e = between-yes (omega (ints, e)) (omega (ints, e))
+
 pub not-equal : {x y : ℤ} → x ≢ y → equal x y ≡ false
 not-equal {x} {y} h = no (equal x y) refl
   where

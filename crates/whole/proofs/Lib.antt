@@ -7,6 +7,7 @@ pub mod Numbers
 pub mod Rounding
 pub mod Bounds
 pub mod Sums
+pub mod SumsOn
 pub mod Summing
 pub mod Parts
 pub mod Laid

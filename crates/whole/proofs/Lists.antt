@@ -2,7 +2,7 @@
 -- Assumes nothing.
 use mathlib.Core.Path.{_≡_, refl, sym, ap, _∙_}
 use mathlib.Core.Logic.{_⊎_, ⊎-elim}
-use mathlib.Core.Bool.{Bool, true, false, _&&_}
+use mathlib.Core.Bool.{Bool, true, false, _&&_, _||_}
 use mathlib.Core.List.{List, [], _∷_, _++_, map}
 use Prim.Native.Nat.{ℕ, zero, suc, _+_, _-_, _≤_, _<_}
 use native.Mathlib.Numerals.{add-one}
@@ -16,6 +16,10 @@ use Rattle.whole.proofs.Tests.{and-left, and-right, both}
 pub and-true : (a : Bool) → a && true ≡ a
 and-true true = refl
 and-true false = refl
+
+pub or-false : (a : Bool) → a || false ≡ a
+or-false true = refl
+or-false false = refl
 
 -- ---- a part of a list in which one element was replaced
 module _ {A : Type 0} (a n : ℕ) (xs : List A) (x : A) where
