@@ -15,3 +15,4 @@ pub mod MoveAndTrade
 pub mod Rolled
 pub mod Allowed
 pub mod AtAccount
+pub mod OneMember

@@ -38,6 +38,10 @@ mostUnits = 1000000
 abbrev pub accountKind : List ℤ → ℤ
 accountKind block = number block 0
 
+-- number 13: 0 (document 01); #104 will hold an account's settlement code there
+abbrev pub settlementCode : List ℤ → ℤ
+settlementCode block = number block 13
+
 -- the head of a block: its kind, and numbers 10 to 15
 abbrev pub InHead : ℕ → Type 0
 InHead k = (k ≡ 0) ⊎ ((10 ≤ k) × (k < 16))

@@ -21,6 +21,8 @@ pub const RUBLE_NETS: usize = 2;
 
 pub const RUBLES_END: usize = 10;
 
+pub const SETTLEMENT_CODE: usize = 13;
+
 // The first of sixteen holdings; that of asset a stands at HOLDINGS + HOLDING_LENGTH * a.
 pub const HOLDINGS: usize = 16;
 
