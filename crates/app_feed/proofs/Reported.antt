@@ -3,20 +3,17 @@ use mathlib.Core.Path.{_≡_, sym, subst}
 use mathlib.Core.List.{List}
 use Prim.Native.Nat.{ℕ}
 use native.Mathlib.Omega.{arith}
-use lib.IntN.{ℤ, pos, _-ℤ_}
-use lib.Signed.{_≤ℤ_}
+use lib.IntN.{ℤ, _-ℤ_}
 use Rattle.whole.proofs.Expressions.{var, lit, _⊕_, _⊖_, le!, eq! }
 use Rattle.whole.proofs.Rules.{ints}
-use Rattle.whole.proofs.Sums.{sum-from-zero}
 use Rattle.rates.specs.Lent.{Tables}
 use Rattle.rates.specs.Ranges.{TableRanges}
 use Rattle.book.specs.Ranges.{BlockRanges}
 use Rattle.book.proofs.Good.{block-ranges}
 use Rattle.book.proofs.AtAccount.{block-long}
-use Rattle.figures.specs.Limit.{totalsOf, singleLimit, figuresOf, blockFigures}
+use Rattle.figures.specs.Limit.{singleLimit, figuresOf, blockFigures}
 use Rattle.figures.specs.Ranges.{Below2^53}
-use Rattle.figures.specs.declared.limit.Figures.{Figures}
-use Rattle.figures.proofs.Below.{part-in-small, discount-within-market, figures-below}
+use Rattle.figures.proofs.Below.{block-bounds, figures-below}
 use Rattle.engine.specs.State.{State, blockAt}
 use Rattle.engine.specs.Ranges.{Judgeable}
 use Rattle.engine.specs.Report.{reportOf}
@@ -27,10 +24,6 @@ use Rattle.app_feed.specs.Promised.{ReportsBelow}
 
 -- ---- of one block
 module _ (block : List ℤ) (tables : Tables) (b : BlockRanges block) (t : TableRanges tables) where
-  interest-from-zero : pos 0 ≤ℤ blockFigures block tables .interest
-  unfolding blockFigures figuresOf totalsOf
-  interest-from-zero = sum-from-zero 16 _ (λ a l. part-in-small block tables b t a l .interest-upto .low)
-
   limit-balances : let f = blockFigures block tables in f .limit ≡ f .valuation -ℤ used f
   unfolding blockFigures figuresOf singleLimit
   limit-balances =
@@ -42,8 +35,8 @@ module _ (block : List ℤ) (tables : Tables) (b : BlockRanges block) (t : Table
   balanced : Balanced (blockFigures block tables)
   balanced =
       let f = blockFigures block tables in
-      let high = discount-within-market block tables b t .1 in
-      let low = interest-from-zero in
+      let high = block-bounds block tables b t .discount-high in
+      let low = block-bounds block tables b t .interest-low in
       record { used-from-zero = le! (lit 0) (var (f .market) ⊕ var (f .interest) ⊖ var (f .discount)) (omega ints); limit-is = limit-balances }
 
 -- ---- of a report that answers 0

@@ -1,5 +1,5 @@
--- An asset with more collateral and the same trades: C' does not fall, so its position of date 0 is raised and its worth with it; of special delivery
--- nothing moves. Where its row in force passes the cover test and is not marked partial, its part of the sums is better.
+-- An asset with more collateral and the same trades, in one block: C' does not fall, so that, where its row is not marked partial, its position of date 0
+-- is raised and its worth with it; of special delivery nothing moves.
 -- Assumes nothing.
 use mathlib.Core.Path.{_≡_, refl, sym, ap, ap₂, _∙_}
 use mathlib.Core.Bool.{Bool, true, false, cond, _&&_}
@@ -8,7 +8,7 @@ use mathlib.Core.Logic.{_≢_}
 use Prim.Native.Nat.{ℕ, _+_, _<_}
 use native.Mathlib.Omega.{arith}
 use lib.IntN.{ℤ, pos, _+ℤ_, _-ℤ_, _*ℤ_}
-use lib.Signed.{_≤ℤ_, ≤ℤ-refl}
+use lib.Signed.{_≤ℤ_}
 use Rattle.whole.specs.Bounds.{equal}
 use Rattle.whole.specs.Sums.{Σ<}
 use Rattle.whole.specs.Parts.{number, tabulated}
@@ -18,21 +18,18 @@ use Rattle.whole.proofs.Tabulated.{tabulated-at, tabulated-same}
 use Rattle.whole.proofs.Tests.{true-not-false}
 use Rattle.whole.proofs.Rules.{ints}
 use Rattle.rates.specs.Row.{kind, coveredSales, specialDelivery, level}
-use Rattle.rates.specs.InForce.{coverTest}
 use Rattle.rates.specs.Ranges.{RowRanges}
 use Rattle.book.specs.Block.{collateral}
 use Rattle.assets.specs.Collateral.{shareByKind, shareInForce, isSpecial, regimeOf, valued}
 use Rattle.assets.specs.Asset.{net, trades, adjustedCollateral, position, leftOut, valuedCollateral, worthOf, assetUnder, assetOf}
-use Rattle.assets.specs.Part.{partOf}
 use Rattle.assets.specs.Ranges.{ShareRange}
 use Rattle.assets.specs.declared.record.Asset.{Asset}
-use Rattle.assets.specs.declared.parts.Part.{Part}
 use Rattle.assets.specs.declared.collateral.Regime.{Regime}
 use Rattle.assets.specs.declared.collateral.Regime.the-variants.{Special, NotRecorded, Partial, Accepted}
 use Rattle.assets.proofs.collateral.Growth.{adjusted-rises}
 use Rattle.assets.proofs.record.Positions.{position-first, position-later}
 use Rattle.assets.proofs.Sizes.{regime-range}
-use Rattle.assets.proofs.Raised.{Better, Raised, raised-better}
+use Rattle.assets.proofs.Raised.{Raised}
 
 -- C'' is C' unless the row is marked partial
 valued-whole : (accountKind : ℕ) (row : List ℤ) → equal (coveredSales row) (pos 2) ≡ false → (c : ℤ) → valued (regimeOf accountKind row) c ≡ c
@@ -46,10 +43,6 @@ valued-whole accountKind row e c = by (equal (specialDelivery row) (pos 1)) (equ
     by true n p h = refl
     by false true p h = refl
     by false false p h = rw h refl
-
--- a part that did not change is no worse
-same-better : (p : Part) → Better p p
-same-better p = record { same-group = refl; longer = ≤ℤ-refl _; less-short = ≤ℤ-refl _; pays = ≤ℤ-refl _ }
 
 -- of special delivery no collateral counts
 special-none : (regime : Regime) → isSpecial regime ≡ true → (holding : List ℤ) → adjustedCollateral regime holding ≡ pos 0
@@ -135,7 +128,7 @@ module _ (regime : Regime) (accountKind : ℕ) (row holding holding′ : List �
     unfolding adjustedCollateral
     adjusted-more = rw trades-same (adjusted-rises (collateral holding) (collateral holding′) (trades holding) more regime share)
 
-    pub deposited : Raised row (c′ -ℤ c) before after
+    deposited : Raised row (c′ -ℤ c) before after
     unfolding assetUnder valuedCollateral
     deposited =
         let o = leftOut regime accountKind row holding in
@@ -151,16 +144,17 @@ module _ (regime : Regime) (accountKind : ℕ) (row holding holding′ : List �
           later = λ d l h. position-after d l ∙ position-later holding c′ d h ∙ sym (position-before d l ∙ position-later holding c d h);
         }
 
-    better-under : RowRanges row → coverTest row ≡ true → Better (partOf row before) (partOf row after)
-    unfolding assetUnder
-    better-under r cover = by (isSpecial regime) refl
-      where
-        by : (t : Bool) → isSpecial regime ≡ t → Better (partOf row before) (partOf row after)
-        by true e = rw (special-same e) (same-better (partOf row before))
-        by false e = raised-better row r (c′ -ℤ c) before after deposited e cover
+-- ---- under the regime of its row
+-- what date 0 is raised by
+abbrev pub raise : ℕ → List ℤ → List ℤ → List ℤ → ℤ
+raise accountKind row holding holding′ =
+    adjustedCollateral (regimeOf accountKind row) holding′ -ℤ adjustedCollateral (regimeOf accountKind row) holding
 
-pub deposited-better : (accountKind : ℕ) (row holding holding′ : List ℤ) → RowRanges row → ((k : ℕ) → k ≢ 0 → number holding′ k ≡ number holding k)
-    → collateral holding ≤ℤ collateral holding′ → equal (coveredSales row) (pos 2) ≡ false → coverTest row ≡ true
-    → Better (partOf row (assetOf accountKind row holding)) (partOf row (assetOf accountKind row holding′))
-deposited-better accountKind row holding holding′ r same more whole cover =
-    better-under (regimeOf accountKind row) accountKind row holding holding′ same (regime-range accountKind row r) (valued-whole accountKind row whole) more r cover
+module _ (accountKind : ℕ) (row holding holding′ : List ℤ) (same : (k : ℕ) → k ≢ 0 → number holding′ k ≡ number holding k) where
+  pub special-stays : isSpecial (regimeOf accountKind row) ≡ true → assetOf accountKind row holding′ ≡ assetOf accountKind row holding
+  special-stays = special-same (regimeOf accountKind row) accountKind row holding holding′ same
+
+  pub deposit-raises : RowRanges row → collateral holding ≤ℤ collateral holding′ → equal (coveredSales row) (pos 2) ≡ false
+      → Raised row (raise accountKind row holding holding′) (assetOf accountKind row holding) (assetOf accountKind row holding′)
+  deposit-raises r more whole =
+      deposited (regimeOf accountKind row) accountKind row holding holding′ same (regime-range accountKind row r) (valued-whole accountKind row whole) more

@@ -1,15 +1,16 @@
--- How large an asset's numbers are in ONE block: its positions come to at most 9,000,000 units over the dates, so each of its risks is at most
--- 9 × 10^13 kopecks; its worth is at most 2.4 × 10^14.
+-- How large an asset's numbers are: in one block its positions come to at most 9,000,000 units over the dates, so each of its risks is at most
+-- 9 × 10^13 kopecks, and its worth is at most 2.4 × 10^14; in n blocks added together, n times that.
 -- Assumes nothing.
-use mathlib.Core.Path.{_≡_, refl, sym, ap, subst}
+use mathlib.Core.Path.{_≡_, refl, sym, subst}
 use mathlib.Core.Bool.{Bool, true, false, cond, _&&_}
 use mathlib.Core.List.{List}
 use mathlib.Core.Logic.{⊎-elim}
-use Prim.Native.Nat.{ℕ, suc, _+_, _*_, _≤_, _<_, _^_}
+use Prim.Native.Nat.{ℕ, zero, suc, _+_, _*_, _≤_, _<_, _^_}
 use native.Mathlib.Nat.{suc-ne-zero}
 use native.Mathlib.Omega.{arith}
 use lib.Dec.{eqb}
 use lib.IntN.{ℤ, pos, negℤ, natAbs, _-ℤ_}
+use lib.ListN.{length}
 use lib.Signed.{_≤ℤ_, _<ℤ_, ltZ, ≤ℤ-refl}
 use Rattle.whole.specs.Numbers.{absℤ}
 use Rattle.whole.specs.Bounds.{_within_, _upto_, equal}
@@ -21,7 +22,7 @@ use Rattle.whole.proofs.Numbers.{<ℤ-or-≥ℤ}
 use Rattle.whole.proofs.Bounds.{wider}
 use Rattle.whole.proofs.InRange.{neg-size, upto-size, upto-wider, zero-upto, max-upto, choice-upto}
 use Rattle.whole.proofs.Sums.{sum-within, sum-from-zero, sum-first}
-use Rattle.whole.proofs.Tabulated.{tabulated-at}
+use Rattle.whole.proofs.Tabulated.{tabulated-length, tabulated-at}
 use Rattle.whole.proofs.Rules.{ints}
 use Rattle.rates.specs.Row.{kind, poolShare, coveredSales, specialDelivery, fall, rise, spreadGroup}
 use Rattle.rates.specs.Units.{theWhole}
@@ -32,7 +33,7 @@ use Rattle.assets.specs.Collateral.{poolShareInForce, shareByKind, share
 use Rattle.assets.specs.Asset.{position, adjustedCollateral, leftOut, valuedCollateral, assetUnder, assetOf}
 use Rattle.assets.specs.Risk.{long, short, positionSum, longSum, shortSum, marketRisk, fallCharge, riseCharge, interestOf, interestRisk}
 use Rattle.assets.specs.Part.{longRisk, shortRisk, groupOf, partOf}
-use Rattle.assets.specs.Ranges.{ShareRange, PartRanges}
+use Rattle.assets.specs.Ranges.{ShareRange, PositionRanges, AssetRanges, PartRanges}
 use Rattle.assets.specs.declared.record.Asset.{Asset}
 use Rattle.assets.specs.declared.parts.Part.{Part}
 use Rattle.assets.specs.declared.collateral.Regime.{Regime}
@@ -161,21 +162,45 @@ module _ (regime : Regime) (s : ShareRange regime) (accountKind : ℕ) (row : Li
       let b = left-out-upto in
       omega (ints, is (var (valued regime c) ⊖ var (leftOut regime accountKind row holding)))
 
-  position-at : (d : ℕ) → d < 8 → natAbs (number (assetUnder regime accountKind row holding .positions) d) ≡ natAbs (position holding (adjustedCollateral regime holding) d)
+  position-at : (d : ℕ) → d < 8 → number (assetUnder regime accountKind row holding .positions) d ≡ position holding (adjustedCollateral regime holding) d
   unfolding assetUnder
-  position-at d l = ap natAbs (tabulated-at _ 8 d (pos 0) l)
-
-  asset-units : Units 1000000 1000000 (assetUnder regime accountKind row holding .positions)
-  asset-units =
-      let c = adjustedCollateral regime holding in
-      record {
-        first = let a = position-within holding c h 1000000 0 (omega arith) adjusted-small (omega arith) .size in omega (arith, position-at 0 (omega arith));
-        later = λ d l. let a = position-later-within holding c h (suc d) (omega arith) (λ e. suc-ne-zero d e) .size in omega (arith, position-at (suc d) (omega arith));
-      }
+  position-at d l = tabulated-at _ 8 d (pos 0) l
 
   asset-worth : assetUnder regime accountKind row holding .worth within 240000000000000
   unfolding assetUnder
   asset-worth = sum-within 30000000000000 8 _ (omega arith) (worth-within row r holding h _ valued-small)
+
+  sized : length (assetUnder regime accountKind row holding .positions) ≡ 8
+  unfolding assetUnder
+  sized = tabulated-length _ 8
+
+  ranges-under : AssetRanges 1 (assetUnder regime accountKind row holding)
+  ranges-under =
+      let c = adjustedCollateral regime holding in
+      record {
+        worth-within = asset-worth;
+        size = sized;
+        first-within = subst (λ (x : ℤ). x within 2000000) (sym (position-at 0 (omega arith)))
+            (position-within holding c h 1000000 0 (omega arith) adjusted-small (omega arith));
+        later-within = λ d l. subst (λ (x : ℤ). x within 1000000) (sym (position-at (suc d) (omega arith)))
+            (position-later-within holding c h (suc d) (omega arith) (λ e. suc-ne-zero d e));
+      }
+
+-- the record of one asset of a block
+pub asset-ranges : (accountKind : ℕ) (row : List ℤ) → RowRanges row → (holding : List ℤ) → HoldingRanges holding
+    → AssetRanges 1 (assetOf accountKind row holding)
+asset-ranges accountKind row r holding h = ranges-under (regimeOf accountKind row) (regime-range accountKind row r) accountKind row r holding h
+
+-- ---- what the ranges of a record say of its positions
+pub positions-range : (n : ℕ) (x : Asset) → AssetRanges n x → n ≤ 4 → PositionRanges (x .positions)
+positions-range n x a l = record { size = a .size; each = by }
+  where
+    by : (d : ℕ) → d < 8 → number (x .positions) d within 8000000
+    by zero m = wider 8000000 (a .first-within) (omega arith)
+    by (suc d) m = wider 8000000 (a .later-within d (omega arith)) (omega arith)
+
+units-of : (n : ℕ) (x : Asset) → AssetRanges n x → Units (n * 1000000) (n * 1000000) (x .positions)
+units-of n x a = record { first = let h = a .first-within .size in omega arith; later = λ d l. a .later-within d l .size }
 
 -- ---- x or nothing
 pub choice-from-zero : (t : Bool) {x : ℤ} → pos 0 ≤ℤ x → pos 0 ≤ℤ cond t x (pos 0)
@@ -186,29 +211,26 @@ choice-below : (t : Bool) {x : ℤ} → pos 0 ≤ℤ x → cond t x (pos 0) ≤�
 choice-below true h = ≤ℤ-refl _
 choice-below false h = h
 
--- ---- an asset's part of the sums, in one block
-pub record SmallPart (part : Part) : Type 0 where
-  pub worth-within : part .worth within 240000000000000
-  pub market-upto : part .market upto 90000000000000
-  pub interest-upto : part .interest upto 90000000000000
+-- ---- an asset's part of the sums, in n blocks
+pub record SmallPart (n : ℕ) (part : Part) : Type 0 where
+  pub worth-within : part .worth within (n * 240000000000000)
+  pub market-upto : part .market upto (n * 90000000000000)
+  pub interest-upto : part .interest upto (n * 90000000000000)
   pub long-low : pos 0 ≤ℤ part .long
   pub long-high : part .long ≤ℤ part .market
   pub short-low : pos 0 ≤ℤ part .short
   pub short-high : part .short ≤ℤ part .market
   pub group-below : part .group < 9
 
-pub part-small : (accountKind : ℕ) (row : List ℤ) → RowRanges row → (holding : List ℤ) → HoldingRanges holding → SmallPart (partOf row (assetOf accountKind row holding))
+pub part-small : (n : ℕ) → n ≤ 4 → (row : List ℤ) → RowRanges row → (x : Asset) → AssetRanges n x → SmallPart n (partOf row x)
 unfolding partOf longRisk shortRisk groupOf
-part-small accountKind row r holding h =
-    let regime = regimeOf accountKind row in
-    let s = regime-range accountKind row r in
-    let x = assetOf accountKind row holding in
-    let units = asset-units regime s accountKind row r holding h in
-    let market = market-size row r x units (omega arith) in
+part-small n l row r x a =
+    let few : 10000000 * (n * 1000000 + 8 * (n * 1000000)) < 900000000000000 = omega arith in
+    let market = market-size row r x (units-of n x a) few in
     record {
-      worth-within = asset-worth regime s accountKind row r holding h;
-      market-upto = market;
-      interest-upto = interest-size row r x units (omega arith);
+      worth-within = a .worth-within;
+      market-upto = upto-wider (n * 90000000000000) market (omega arith);
+      interest-upto = upto-wider (n * 90000000000000) (interest-size row r x (units-of n x a) few) (omega arith);
       long-low = choice-from-zero (ltZ (pos 0) (positionSum (x .positions))) (market .low);
       long-high = choice-below (ltZ (pos 0) (positionSum (x .positions))) (market .low);
       short-low = choice-from-zero (ltZ (positionSum (x .positions)) (pos 0)) (market .low);
@@ -220,9 +242,9 @@ part-small accountKind row r holding h =
 between-upto : {x y : ℤ} {k : ℕ} (m : ℕ) → pos 0 ≤ℤ x → x ≤ℤ y → y upto k → k ≤ m → m < 2 ^ 63 → x upto m
 between-upto {x} {y} {k} m low high h l b = record { low = low; high = omega ints; fits = omega ints }
 
--- it is far inside what contracts ask, which is wide enough for four blocks
-pub small-ranges : {part : Part} → SmallPart part → PartRanges part
-small-ranges p = record {
+-- it is far inside what contracts ask
+pub small-ranges : (n : ℕ) → n ≤ 4 → {part : Part} → SmallPart n part → PartRanges part
+small-ranges n l p = record {
   worth-within = wider 960000000000000 (p .worth-within) (omega arith);
   market-upto = upto-wider 640000000000000 (p .market-upto) (omega arith);
   interest-upto = upto-wider 640000000000000 (p .interest-upto) (omega arith);

@@ -25,6 +25,7 @@ use Rattle.assets.specs.Asset.{net, trades, adjustedCollateral, position
 use Rattle.assets.specs.Risk.{positionSum}
 use Rattle.assets.specs.Part.{longRisk, shortRisk, partOf}
 use Rattle.assets.specs.Ranges.{ShareRange}
+use Rattle.assets.specs.declared.record.Asset.{Asset}
 use Rattle.assets.specs.declared.parts.Part.{Part}
 use Rattle.assets.specs.declared.collateral.Regime.{Regime}
 use Rattle.assets.specs.declared.collateral.Regime.the-variants.{Special, NotRecorded, Partial, Accepted}
@@ -86,7 +87,11 @@ module _ (holding : List ℤ) (empty : allZero holding ≡ true) where
     unfolding assetUnder
     positions-none d l = tabulated-at _ 8 d (pos 0) l ∙ position-none adjusted-none d
 
--- ---- its part of the sums
+-- ---- a record of nothing, and its part of the sums
+pub record NoAsset (x : Asset) : Type 0 where
+  pub no-worth : x .worth ≡ pos 0
+  pub no-position : (d : ℕ) → d < 8 → number (x .positions) d ≡ pos 0
+
 pub record NoPart (part : Part) : Type 0 where
   pub no-worth : part .worth ≡ pos 0
   pub no-market : part .market ≡ pos 0
@@ -94,17 +99,20 @@ pub record NoPart (part : Part) : Type 0 where
   pub no-long : part .long ≡ pos 0
   pub no-short : part .short ≡ pos 0
 
-pub unheld-part : (accountKind : ℕ) (row holding : List ℤ) → RowRanges row → allZero holding ≡ true → NoPart (partOf row (assetOf accountKind row holding))
-unfolding partOf longRisk shortRisk
-unheld-part accountKind row holding r empty =
+pub unheld-asset : (accountKind : ℕ) (row holding : List ℤ) → RowRanges row → allZero holding ≡ true → NoAsset (assetOf accountKind row holding)
+unheld-asset accountKind row holding r empty =
     let regime = regimeOf accountKind row in
     let share = regime-range accountKind row r in
-    let x = assetOf accountKind row holding in
-    let none = positions-none holding empty regime share accountKind row in
-    let units : Units 0 0 (x .positions) = record { first = zero-size (none 0 (omega arith)); later = λ d l. zero-size (none (suc d) (omega arith)) } in
+    record { no-worth = worth-none holding empty regime share accountKind row; no-position = positions-none holding empty regime share accountKind row }
+
+pub unheld-part : (row : List ℤ) → RowRanges row → (x : Asset) → NoAsset x → NoPart (partOf row x)
+unfolding partOf longRisk shortRisk
+unheld-part row r x none =
+    let none-at = none .no-position in
+    let units : Units 0 0 (x .positions) = record { first = zero-size (none-at 0 (omega arith)); later = λ d l. zero-size (none-at (suc d) (omega arith)) } in
     let m = upto-none (market-size row r x units (omega arith)) in
     record {
-      no-worth = worth-none holding empty regime share accountKind row;
+      no-worth = none .no-worth;
       no-market = m;
       no-interest = upto-none (interest-size row r x units (omega arith));
       no-long = none-either-way (ltZ (pos 0) (positionSum (x .positions))) m;

@@ -43,7 +43,7 @@ fn if_so(so: bool, x: i64) -> i64
 
 // The asset's part of the sums. Its positions are summed once, for the risk and for the side.
 pub fn part_of(row: &[i64], x: Asset) -> Part
-    requires { ⌜ RowRanges (now row) × AssetRanges x ⌝ }
+    requires { ⌜ RowRanges (now row) × AssetRanges 4 x ⌝ }
     ensures { λ r. ⌜ (r ≡ partOf (now (row .entry)) x) × PartRanges r ⌝ }
 {
     let worth = x.worth;

@@ -6,7 +6,8 @@ ghost use Rattle.whole.specs.Parts.{tabulated};
 ghost use Rattle.rates.specs.Ranges.{RowRanges};
 ghost use Rattle.book.specs.Ranges.{HoldingRanges};
 ghost use Rattle.assets.specs.Asset.{net, trades, adjustedCollateral, position, leftOut, worthOf, assetOf};
-ghost use Rattle.assets.specs.Ranges.{ShareRange, PositionRanges, AssetRanges};
+ghost use Rattle.assets.specs.Joint.{withRecord};
+ghost use Rattle.assets.specs.Ranges.{ShareRange, AssetRanges};
 use crate::collateral;
 use crate::collateral::Regime;
 use book::in_block;
@@ -72,7 +73,7 @@ fn position_of(holding: &[i64], c: i64, d: usize) -> i64
 // The positions of the eight dates.
 fn positions_of(holding: &[i64], c: i64) -> [i64; 8]
     requires { ⌜ HoldingRanges (now holding) × (c within 1000000) ⌝ }
-    ensures { λ r. ⌜ (r ≡ tabulated 8 (position (now (holding .entry)) c)) × PositionRanges r ⌝ }
+    ensures { λ r. ⌜ r ≡ tabulated 8 (position (now (holding .entry)) c) ⌝ }
 {
     let mut positions = [0i64; 8];
     for d in 0..DATE_COUNT {
@@ -123,7 +124,7 @@ fn worth_of(row: &[i64], holding: &[i64], c: i64) -> i64
 // The asset's working record.
 pub fn asset_of(kind: usize, row: &[i64], holding: &[i64]) -> Asset
     requires { ⌜ RowRanges (now row) × HoldingRanges (now holding) ⌝ }
-    ensures { λ r. ⌜ (r ≡ assetOf kind (now (row .entry)) (now (holding .entry))) × AssetRanges r ⌝ }
+    ensures { λ r. ⌜ (r ≡ assetOf kind (now (row .entry)) (now (holding .entry))) × AssetRanges 1 r ⌝ }
 {
     let regime = collateral::regime_of(kind, row);
     let c = adjusted_collateral(regime, holding);
@@ -134,6 +135,25 @@ pub fn asset_of(kind: usize, row: &[i64], holding: &[i64]) -> Asset
     Asset {
         regime,
         worth,
+        positions,
+    }
+}
+
+// A record with another block's added to it (4.11). The blocks have one kind, so the regime is that of both.
+pub fn with_record(x: Asset, y: Asset) -> Asset
+    requires { ⌜ AssetRanges 3 x × AssetRanges 1 y ⌝ }
+    ensures { λ r. ⌜ r ≡ withRecord x y ⌝ }
+{
+    let before = x.positions;
+    let more = y.positions;
+    let mut positions = [0i64; 8];
+    for d in 0..DATE_COUNT {
+        positions[d] = before[d] + more[d];
+    }
+    let regime = x.regime;
+    Asset {
+        regime,
+        worth: x.worth + y.worth,
         positions,
     }
 }

@@ -105,7 +105,7 @@ pub(crate) fn report_code(
     holding_code(book, clearing, i)
 }
 
-// The figures of an account that may be judged.
+// The figures of an account that may be judged: no other block is valued with its own (#104 will list the blocks of its code).
 pub(crate) fn figures_at<'a>(
     book: &[i64],
     clearing: &'a [i64],
@@ -116,7 +116,8 @@ pub(crate) fn figures_at<'a>(
     requires { ⌜ Judgeable (lent clearing own groups) i (state book) ⌝ }
     ensures { λ r. ⌜ r ≡ figuresAt (given clearing own groups) i (found book) ⌝ }
 {
-    figures::block_figures(book::block_of(book, i), clearing, own, groups)
+    let members = book::alone(book, i);
+    figures::joint_figures(book, members, clearing, own, groups)
 }
 
 // The Single Limit of an account that may be judged.

@@ -1,4 +1,5 @@
--- The five figures of ONE block, of tables that pass the check: each is below 2^53 in size, and the discount lies from 0 to the market risk.
+-- Of tables that pass the check: the discount lies from 0 to the market risk, and interest risk is from 0 up, of one block and of several; each of the
+-- five figures of ONE block is below 2^53 in size.
 -- Assumes nothing.
 use mathlib.Core.List.{List}
 use Prim.Native.Nat.{ℕ, _+_, _<_, _^_}
@@ -17,18 +18,18 @@ use Rattle.whole.proofs.Sums.{sum-le, sum-within, sum-from-zero, sum-swap}
 use Rattle.whole.proofs.Rules.{ints}
 use Rattle.rates.specs.Lent.{Tables}
 use Rattle.rates.specs.Ranges.{TableRanges}
+use Rattle.book.specs.Block.{blockOf}
 use Rattle.book.specs.Ranges.{BlockRanges}
+use Rattle.book.specs.Members.{overMembers, MemberRanges}
+use Rattle.book.specs.declared.members.Members.{Members}
 use Rattle.assets.specs.declared.parts.Part.{Part}
-use Rattle.assets.proofs.Sizes.{SmallPart, part-small}
+use Rattle.assets.proofs.Sizes.{SmallPart, asset-ranges, part-small}
 use Rattle.figures.specs.Limit.{inGroup, byGroup, totalsOf, discountOf, discount, singleLimit, figuresOf, rublesOf, partIn, blockFigures}
-use Rattle.figures.specs.Ranges.{PercentRanges, Below2^53}
+use Rattle.figures.specs.Joint.{jointFigures}
+use Rattle.figures.specs.Ranges.{PercentRanges, Below2^53, RiskBounds}
 use Rattle.figures.proofs.limit.Discount.{percent-ranges, discount-from-zero, discount-below}
 use Rattle.figures.proofs.Groups.{in-group-from-zero, one-group, side-at}
-
--- each asset of a block has its part
-pub part-in-small : (block : List ℤ) (tables : Tables) → BlockRanges block → TableRanges tables → (a : ℕ) → a < 16 → SmallPart (partIn block tables a)
-unfolding partIn
-part-in-small block tables b t a l = part-small _ _ (t .row a l) _ (b .holding a l)
+use Rattle.figures.proofs.SeveralBlocks.{member-part-small}
 
 sizes : (worth rubles market interest less : ℤ) → worth within 3840000000000000 → rubles within 900000000000000 → market upto 1440000000000000
     → interest upto 1440000000000000 → pos 0 ≤ℤ less → less ≤ℤ market
@@ -51,7 +52,7 @@ total-upto f h =
     record { low = z; high = omega ints; fits = w .fits }
 
 -- ---- the discount is at most the long sides of the groups, and those are at most the market risk
-module _ (parts : ℕ → Part) (small : (a : ℕ) → a < 16 → SmallPart (parts a)) (groups : List ℤ) (percents : PercentRanges groups) where
+module _ (n : ℕ) (parts : ℕ → Part) (small : (a : ℕ) → a < 16 → SmallPart n (parts a)) (groups : List ℤ) (percents : PercentRanges groups) where
   abbrev longs : List ℤ
   longs = byGroup (λ part. part .long) parts 16
 
@@ -86,23 +87,41 @@ module _ (parts : ℕ → Part) (small : (a : ℕ) → a < 16 → SmallPart (par
         (sum-le 16 _ _ (λ a l. ≤ℤ-trans (one-group (parts a) _ (small a l .long-low) 8) (small a l .long-high)))),
   )
 
+  pub risk-bounds : (rubles : ℤ) → RiskBounds (figuresOf (totalsOf parts 16) groups rubles)
+  unfolding figuresOf totalsOf discount
+  risk-bounds rubles = record {
+    discount-low = discount-range .0;
+    discount-high = discount-range .1;
+    interest-low = sum-from-zero 16 _ (λ a l. small a l .interest-upto .low);
+  }
+
+-- ---- of members that can be valued
+pub member-bounds : (book : List ℤ) (m : Members) (tables : Tables) → MemberRanges book m → TableRanges tables
+    → RiskBounds (jointFigures (overMembers m) (m .kind) (blockOf book) tables)
+unfolding jointFigures
+member-bounds book m tables p t =
+    risk-bounds (m .count) _ (λ a l. member-part-small book m tables p t a l) (tables .groups) (percent-ranges t)
+    (overMembers m (λ j. rublesOf (blockOf book j)))
+
+-- ---- of one block
 module _ (block : List ℤ) (tables : Tables) (b : BlockRanges block) (t : TableRanges tables) where
   abbrev parts : ℕ → Part
   parts = partIn block tables
 
-  abbrev small : (a : ℕ) → a < 16 → SmallPart (parts a)
-  small = part-in-small block tables b t
+  -- each asset of a block has its part
+  small : (a : ℕ) → a < 16 → SmallPart 1 (parts a)
+  unfolding partIn
+  small a l = part-small 1 (omega arith) _ (t .row a l) _ (asset-ranges _ _ (t .row a l) _ (b .holding a l))
 
-  -- the discount of a block lies from 0 to its market risk
-  pub discount-within-market : let f = blockFigures block tables in (pos 0 ≤ℤ f .discount) × (f .discount ≤ℤ f .market)
-  unfolding blockFigures figuresOf totalsOf discount
-  discount-within-market = discount-range parts small (tables .groups) (percent-ranges t)
+  pub block-bounds : RiskBounds (blockFigures block tables)
+  unfolding blockFigures
+  block-bounds = risk-bounds 1 parts small (tables .groups) (percent-ranges t) (rublesOf block)
 
-  -- each of the five figures of a block is below 2^53 in size
+  -- each of the five figures is below 2^53 in size
   pub figures-below : Below2^53 (blockFigures block tables)
   unfolding blockFigures figuresOf totalsOf discount singleLimit rublesOf
   figures-below =
-      let d = discount-range parts small (tables .groups) (percent-ranges t) in
+      let d = discount-range 1 parts small (tables .groups) (percent-ranges t) in
       let s = sizes (Σ< 16 (λ a. parts a .worth)) (rublesOf block) (Σ< 16 (λ a. parts a .market)) (Σ< 16 (λ a. parts a .interest)) (Σ< 8 (discountOf (tables .groups) _ _))
       (sum-within 240000000000000 16 _ (omega arith) (λ a l. small a l .worth-within)) (sum-within 100000000000000 9 _ (omega arith) (b .rubles-range .each-within))
       (total-upto _ (λ a l. small a l .market-upto)) (total-upto _ (λ a l. small a l .interest-upto)) (d .0) (d .1) in

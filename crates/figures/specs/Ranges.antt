@@ -1,9 +1,10 @@
--- How large the sums on the way can be, stated for four blocks added together, and the five figures of one block. Assumes nothing.
+-- How large the sums on the way can be, stated for four blocks added together, the five figures of one block, and the signs of the risks. Assumes nothing.
 use mathlib.Core.Path.{_≡_}
 use mathlib.Core.List.{List}
 use Prim.Native.Nat.{ℕ, _*_, _<_, _^_}
-use lib.IntN.{ℤ, natAbs}
+use lib.IntN.{ℤ, pos, natAbs}
 use lib.ListN.{length}
+use lib.Signed.{_≤ℤ_}
 use Rattle.whole.specs.Bounds.{_within_, _upto_}
 use Rattle.whole.specs.Parts.{number}
 use Rattle.figures.specs.declared.sums.Totals.{Totals}
@@ -34,3 +35,9 @@ pub record Below2^53 (f : Figures) : Type 0 where
   pub interest-below : natAbs (f .interest) < 2 ^ 53
   pub discount-below : natAbs (f .discount) < 2 ^ 53
   pub limit-below : natAbs (f .limit) < 2 ^ 53
+
+-- of one block or of several: the discount lies from 0 to the market risk, and interest risk is from 0 up
+pub record RiskBounds (f : Figures) : Type 0 where
+  pub discount-low : pos 0 ≤ℤ f .discount
+  pub discount-high : f .discount ≤ℤ f .market
+  pub interest-low : pos 0 ≤ℤ f .interest

@@ -4,11 +4,15 @@ ghost use Rattle.whole.specs.Bounds.{_within_, _upto_};
 ghost use Rattle.whole.specs.Sums.{Σ<};
 ghost use Rattle.rates.specs.Lent.{lent, given};
 ghost use Rattle.rates.specs.Ranges.{TableRanges};
+ghost use Rattle.book.specs.Block.{blockOf};
 ghost use Rattle.book.specs.Ranges.{BlockRanges};
-ghost use Rattle.figures.specs.Limit.{discountOf, figuresOf, rublesOf, blockFigures};
+ghost use Rattle.book.specs.Members.{overMembers, MemberRanges};
+ghost use Rattle.figures.specs.Limit.{discountOf, figuresOf, rublesOf};
+ghost use Rattle.figures.specs.Joint.{jointFigures};
 ghost use Rattle.figures.specs.Ranges.{GroupRanges, PercentRanges, TotalRanges};
 use crate::sums;
 use crate::sums::Totals;
+use book::Members;
 use book::in_block;
 use rates::units::GROUP_COUNT;
 
@@ -67,6 +71,21 @@ fn rubles_of(block: &[i64]) -> i64
     sum
 }
 
+// The rubles of the members.
+fn joint_rubles(book: &[i64], members: Members) -> i64
+    requires { ⌜ MemberRanges (now book) members ⌝ }
+    ensures { λ r. ⌜ (r ≡ overMembers members (λ j. rublesOf (blockOf (now (book .entry)) j))) × (r within 3600000000000000) ⌝ }
+{
+    let count = members.count;
+    let mut sum: i64 = 0;
+    let mut k: usize = 0;
+    while k < count {
+        sum += rubles_of(book::member_block(book, members, k));
+        k += 1;
+    }
+    sum
+}
+
 // The five figures from the sums.
 fn figures_of(totals: Totals, groups: &[i64], rubles: i64) -> Figures
     requires { ⌜ TotalRanges 16 totals × PercentRanges (now groups) × (rubles within 3600000000000000) ⌝ }
@@ -88,17 +107,18 @@ fn figures_of(totals: Totals, groups: &[i64], rubles: i64) -> Figures
     }
 }
 
-// The five figures of an account's block.
-pub fn block_figures<'a>(
-    block: &[i64],
+// The five figures of the members.
+pub fn joint_figures<'a>(
+    book: &[i64],
+    members: Members,
     clearing: &'a [i64],
     own: &'a [i64],
     groups: &[i64],
 ) -> Figures
-    requires { ⌜ BlockRanges (now block) × TableRanges (lent clearing own groups) ⌝ }
-    ensures { λ r. ⌜ r ≡ blockFigures (now (block .entry)) (given clearing own groups) ⌝ }
+    requires { ⌜ MemberRanges (now book) members × TableRanges (lent clearing own groups) ⌝ }
+    ensures { λ r. ⌜ r ≡ jointFigures (overMembers members) (members .kind) (blockOf (now (book .entry))) (given clearing own groups) ⌝ }
 {
-    let totals = sums::totals_of(block, clearing, own, groups);
-    let rubles = rubles_of(block);
+    let totals = sums::totals_of(book, members, clearing, own, groups);
+    let rubles = joint_rubles(book, members);
     figures_of(totals, groups, rubles)
 }

@@ -3,16 +3,19 @@ ghost use Prim.Native.Nat.{_<_};
 ghost use Rattle.whole.specs.Bounds.{_upto_};
 ghost use Rattle.rates.specs.Lent.{lent, given};
 ghost use Rattle.rates.specs.Ranges.{TableRanges};
+ghost use Rattle.book.specs.Block.{blockOf};
 ghost use Rattle.book.specs.Changes.{added};
-ghost use Rattle.book.specs.Ranges.{BlockRanges};
+ghost use Rattle.book.specs.Members.{overMembers, MemberRanges};
 ghost use Rattle.assets.specs.Ranges.{PartRanges};
-ghost use Rattle.figures.specs.Limit.{totalsOf, partIn, withPart};
+ghost use Rattle.figures.specs.Limit.{totalsOf, withPart};
+ghost use Rattle.figures.specs.Joint.{jointPart};
 ghost use Rattle.figures.specs.Ranges.{GroupRanges, TotalRanges};
+use crate::joint;
 use assets::Part;
-use book::in_block;
+use book::Members;
 use rates::units::ASSET_COUNT;
 
-// The sums over the assets of a block.
+// The sums over the assets of the members.
 
 // Sums over assets: valuation, both risks, and market risk by side and group 0 to 8.
 pub struct Totals {
@@ -51,38 +54,39 @@ fn with_part(totals: Totals, part: Part) -> Totals
     }
 }
 
-// The sums with asset a of a block. An asset of which nothing is held adds nothing and is passed by, so an account costs by what it holds.
+// The sums with asset a of the members. An asset of which none holds anything adds nothing and is passed by before its row is looked up, so that
+// members cost by what they hold.
 fn with_asset<'a>(
     totals: Totals,
-    block: &[i64],
+    book: &[i64],
+    members: Members,
     clearing: &'a [i64],
     own: &'a [i64],
     groups: &[i64],
     a: usize,
 ) -> Totals
-    requires { ⌜ TotalRanges 15 totals × BlockRanges (now block) × TableRanges (lent clearing own groups) × (a < 16) ⌝ }
-    ensures { λ r. ⌜ r ≡ withPart totals (partIn (now (block .entry)) (given clearing own groups) a) ⌝ }
+    requires { ⌜ TotalRanges 15 totals × MemberRanges (now book) members × TableRanges (lent clearing own groups) × (a < 16) ⌝ }
+    ensures { λ r. ⌜ r ≡ withPart totals (jointPart (overMembers members) (members .kind) (blockOf (now (book .entry))) (given clearing own groups) a) ⌝ }
 {
-    let at = in_block::HOLDINGS + in_block::HOLDING_LENGTH * a;
-    if whole::all_zero(&block[at..at + in_block::HOLDING_LENGTH]) {
+    if joint::none_holds(book, members, a) {
         return totals;
     }
     let row = rates::row_in_force(clearing, own, a);
-    let kind = block[in_block::ACCOUNT_KIND] as usize;
-    let x = assets::asset_of(kind, row, &block[at..at + in_block::HOLDING_LENGTH]);
+    let x = joint::joint_asset(book, members, row, a);
     let part = assets::part_of(row, x);
     with_part(totals, part)
 }
 
 // The sums over the sixteen assets.
 pub(crate) fn totals_of<'a>(
-    block: &[i64],
+    book: &[i64],
+    members: Members,
     clearing: &'a [i64],
     own: &'a [i64],
     groups: &[i64],
 ) -> Totals
-    requires { ⌜ BlockRanges (now block) × TableRanges (lent clearing own groups) ⌝ }
-    ensures { λ r. ⌜ r ≡ totalsOf (partIn (now (block .entry)) (given clearing own groups)) 16 ⌝ }
+    requires { ⌜ MemberRanges (now book) members × TableRanges (lent clearing own groups) ⌝ }
+    ensures { λ r. ⌜ r ≡ totalsOf (jointPart (overMembers members) (members .kind) (blockOf (now (book .entry))) (given clearing own groups)) 16 ⌝ }
 {
     let mut totals = Totals {
         valuation: 0,
@@ -93,7 +97,7 @@ pub(crate) fn totals_of<'a>(
     };
     let mut a: usize = 0;
     while a < ASSET_COUNT {
-        totals = with_asset(totals, block, clearing, own, groups, a);
+        totals = with_asset(totals, book, members, clearing, own, groups, a);
         a += 1;
     }
     totals

@@ -1,21 +1,18 @@
 -- Laws of an asset's positions by date (specs/Asset): what they come to, and how large they can be in one block. Assumes nothing.
-use mathlib.Core.Path.{_≡_, refl, sym, subst}
+use mathlib.Core.Path.{_≡_, refl}
 use mathlib.Core.List.{List}
 use Prim.Native.Nat.{ℕ, zero, suc, _+_, _<_, _^_}
 use native.Mathlib.Nat.{suc-ne-zero}
 use native.Mathlib.Omega.{arith}
-use lib.IntN.{ℤ, pos, _+ℤ_, +ℤ-idr}
+use lib.IntN.{ℤ, _+ℤ_, +ℤ-idr}
 use Rattle.whole.specs.Bounds.{_within_}
-use Rattle.whole.specs.Parts.{tabulated}
 use Rattle.whole.proofs.Expressions.{var, _⊖_, is}
 use Rattle.whole.proofs.Rules.{ints}
 use Rattle.whole.proofs.Bounds.{wider, upto-within, product-within}
-use Rattle.whole.proofs.Tabulated.{tabulated-length, tabulated-at}
 use Rattle.rates.specs.Ranges.{RowRanges}
 use Rattle.book.specs.Block.{claim, obligation}
 use Rattle.book.specs.Ranges.{HoldingRanges}
 use Rattle.assets.specs.Asset.{net, position, worthOf}
-use Rattle.assets.specs.Ranges.{PositionRanges}
 
 -- claims less obligations of a date are at most a million
 pub net-within : (holding : List ℤ) → HoldingRanges holding → (d : ℕ) → d < 8 → net holding d within 1000000
@@ -43,14 +40,6 @@ module _ (holding : List ℤ) (c : ℤ) where
     pub position-within : (k d : ℕ) → 1000000 + k < 2 ^ 63 → c within k → d < 8 → position holding c d within (1000000 + k)
     position-within k zero m h l = let a = net-within holding good 0 l in let e = position-first in omega ints
     position-within k (suc d) m h l = wider (1000000 + k) (position-later-within (suc d) l (λ e. suc-ne-zero d e)) (omega arith)
-
-    -- the eight positions are in the range that risk asks of them, which is wide enough for four blocks
-    pub positions-range : c within 1000000 → PositionRanges (tabulated 8 (position holding c))
-    positions-range h = record {
-      size = tabulated-length (position holding c) 8;
-      each = λ d l. subst (λ (x : ℤ). x within 8000000) (sym (tabulated-at (position holding c) 8 d (pos 0) l))
-          (wider 8000000 (position-within 1000000 d (omega arith) h l) (omega arith));
-    }
 
 -- the worth of a date: at most three million units at ten million each
 pub worth-within : (row : List ℤ) → RowRanges row → (holding : List ℤ) → HoldingRanges holding → (c : ℤ) → c within 2000000 → (d : ℕ) → d < 8

@@ -4,18 +4,37 @@ use mathlib.Core.Bool.{Bool, cond}
 use lib.IntN.{ℤ, pos}
 use lib.Signed.{ltZ}
 use mir.Facts.{toZ-ofZ}
+use native.Mathlib.Omega.{arith}
 use borrow.Author.Needs.{needs}
 use denote.Ref.{now}
 use Rattle.whole.proofs.Machine.{back}
 use Rattle.whole.proofs.InRange.{upto-back}
 use Rattle.assets.specs.Risk.{positionSum, marketRisk}
 use Rattle.assets.specs.Part.{longRisk, shortRisk, partOf}
+use Rattle.assets.specs.Ranges.{PositionRanges}
+use Rattle.assets.proofs.Sizes.{positions-range}
 use Rattle.assets.proofs.parts.part_of.Statement.{statement}
 use Rattle.assets.proofs.parts.part_of.Tie as tie
 
 -- what the call was handed, and its risks, seen from its end
 abbrev start : tie.After-group-of → tie.Start
 start c = c .before .before .before .before .before .before .before .before
+
+-- four blocks' positions are in the range that risk asks of them
+in-range : (s : tie.Start) → PositionRanges (s .args .x .positions)
+in-range s = positions-range 4 (s .args .x) (s .pre .1) (omega arith)
+
+sum-of-requires : tie.Need-sum-of-requires
+sum-of-requires c κs = in-range (c .before .before)
+
+market-risk-requires : tie.Need-market-risk-requires
+market-risk-requires c κs =
+    let s = c .before .before .before in
+    let sum = c .sum-of .ensures in
+    rw (toZ-ofZ (sum .1 .fits)) (s .pre .0, in-range s, sum .0, sum .1)
+
+interest-risk-requires : tie.Need-interest-risk-requires
+interest-risk-requires c κs = let s = c .before .before .before .before in (s .pre .0, in-range s)
 
 -- the market risk where a test of the sum says so
 on-side : (test : ℤ → Bool) (c : tie.After-market-risk) → let a = c .before .before .before .before .args in
@@ -62,5 +81,4 @@ returns c =
 pub part-of-spec : {M : Type 1} → statement M
 part-of-spec =
     tie.close
-    (tie.spec (λ c κs. search needs) (λ c κs. search needs) (λ c κs. search needs) (λ c κs. search needs) (λ c κs. search needs) (λ c κs. search needs)
-    returns)
+    (tie.spec sum-of-requires market-risk-requires interest-risk-requires (λ c κs. search needs) (λ c κs. search needs) (λ c κs. search needs) returns)

@@ -1,20 +1,20 @@
 -- `record::asset_of` meets its contract: each field of the record is what the callees ensure, C' for the positions, C'' less what is left out for
 -- the worth.
 -- Assumes nothing.
-use mathlib.Core.Path.{_≡_, ap, ap₂, _∙_}
-use native.Mathlib.Omega.{arith}
+use mathlib.Core.Path.{_≡_, sym, ap, ap₂, _∙_, subst}
 use lib.IntN.{ℤ, _-ℤ_}
 use mir.Facts.{toZ-ofZ}
 use denote.Ref.{now}
 use borrow.Author.Needs.{needs}
 use Rattle.whole.specs.Sums.{Σ<}
 use Rattle.whole.specs.Parts.{tabulated}
-use Rattle.whole.proofs.Bounds.{wider}
 use Rattle.whole.proofs.Expressions.{Expression, var, _⊖_, is}
 use Rattle.whole.proofs.Machine.{Runs, held, need!, runs}
 use Rattle.whole.proofs.Rules.{ints}
 use Rattle.assets.specs.Collateral.{valued}
 use Rattle.assets.specs.Asset.{position, valuedCollateral, worthOf, assetUnder}
+use Rattle.assets.specs.Ranges.{AssetRanges}
+use Rattle.assets.proofs.Sizes.{asset-ranges}
 use Rattle.assets.proofs.record.asset_of.Statement.{statement}
 use Rattle.assets.proofs.record.asset_of.Tie as tie
 
@@ -50,12 +50,12 @@ returns c =
     let p = c .positions-of .ensures in
     let adjusted = a .adjusted-collateral .ensures in
     let worth = toZ-ofZ (w .1 .fits) ∙ w .0 ∙ ap (λ (x : ℤ). Σ< 8 (worthOf (now (s .args .row)) (now (s .args .holding)) x)) (valued-is (c .before .before)) in
-    let positions = p .0 ∙ ap (λ (x : ℤ). tabulated 8 (position (now (s .args .holding)) x)) (toZ-ofZ (adjusted .1 .fits) ∙ adjusted .0) in
-    let regime = a .before .regime-of .ensures .0 in (
-      (λ i. record { regime = a .before .regime-of .result; worth = worth i; positions = positions i })
-          ∙ ap (λ g. assetUnder g (s .args .kind) (now (s .args .row)) (now (s .args .holding))) regime,
-      record { worth-within = rw (toZ-ofZ (w .1 .fits)) (wider 960000000000000 (w .1) (omega arith)); positions-range = p .1 },
-    )
+    let positions = p ∙ ap (λ (x : ℤ). tabulated 8 (position (now (s .args .holding)) x)) (toZ-ofZ (adjusted .1 .fits) ∙ adjusted .0) in
+    let regime = a .before .regime-of .ensures .0 in
+    let made =
+    (λ i. record { regime = a .before .regime-of .result; worth = worth i; positions = positions i })
+    ∙ ap (λ g. assetUnder g (s .args .kind) (now (s .args .row)) (now (s .args .holding))) regime in
+    (made, subst (AssetRanges 1) (sym made) (asset-ranges (s .args .kind) _ (s .pre .0) _ (s .pre .1)))
 
 pub asset-of-spec : {M : Type 1} → statement M
 asset-of-spec =

@@ -16,7 +16,6 @@ use Rattle.whole.proofs.Machine.{back}
 use Rattle.whole.proofs.Bounds.{wider}
 use Rattle.whole.proofs.Tabulated.{filled, filled-none, filled-next, filled-all}
 use Rattle.assets.specs.Asset.{position}
-use Rattle.assets.proofs.record.Positions.{positions-range}
 use Rattle.assets.proofs.record.positions_of.Statement.{statement}
 use Rattle.assets.proofs.record.positions_of.Tie as tie
 
@@ -43,15 +42,11 @@ loop-again c =
       filled-next _ (l .d) _ _ _ (pos 0) (omega arith) (l .inv .3) (toZ-ofZ (r .1 .fits) ∙ r .0),
     )
 
-done : (c : tie.After-loop Inv-loop μ-loop) → let s = c .before .before in
-    c .before .loop .positions ≡ tabulated 8 (position (now (s .args .holding)) (s .args .c))
-done c =
+returns : tie.Need-returns Inv-loop μ-loop
+returns c =
     let s = c .before .before in let l = c .before .loop in let e : l .d ≡ 8 = omega arith in
     l .inv .3 ∙ ap (λ (n : ℕ). filled (position (now (s .args .holding)) (back (s .args .c))) n _) e ∙ filled-all _ 8 _ (l .inv .2)
     ∙ ap (λ (x : ℤ). tabulated 8 (position (now (s .args .holding)) x)) (toZ-ofZ (s .fits .c))
-
-returns : tie.Need-returns Inv-loop μ-loop
-returns c = let s = c .before .before in rw (done c) (refl, positions-range _ _ (s .pre .0) (s .pre .1))
 
 pub positions-of-spec : {M : Type 1} → statement M
 positions-of-spec =

@@ -1,24 +1,38 @@
--- `gate::figures_at` meets its contract: an account that may be judged has the ranges that its figures ask. Assumes nothing.
+-- `gate::figures_at` meets its contract: an account that may be judged can be valued, and the figures of one account alone are its block's.
+-- Assumes nothing.
 use mathlib.Core.Path.{sym, ap, _∙_, subst}
-use mathlib.Core.List.{List}
-use lib.IntN.{ℤ}
-use borrow.Author.Needs.{needs}
+use denote.Ref.{now}
 use Rattle.rates.specs.Lent.{lent}
+use Rattle.book.specs.Block.{blockOf}
 use Rattle.book.specs.Ranges.{BlockRanges}
+use Rattle.book.specs.Members.{overMembers, MemberRanges}
+use Rattle.book.specs.declared.members.Members.{Members}
 use Rattle.book.proofs.Good.{block-ranges}
 use Rattle.book.proofs.AtAccount.{block-long}
-use Rattle.figures.specs.Limit.{blockFigures}
+use Rattle.book.proofs.OneMember.{alone-ranges}
+use Rattle.figures.specs.Joint.{jointFigures}
+use Rattle.figures.proofs.SeveralBlocks.{one-member}
 use Rattle.engine.proofs.gate.figures_at.Statement.{statement}
 use Rattle.engine.proofs.gate.figures_at.Tie as tie
 
-block-figures-requires : tie.Need-block-figures-requires
-block-figures-requires c κs = let s = c .before in let p = s .pre in
-    (subst BlockRanges (sym (c .block-of .ensures .0)) (block-ranges _ (block-long (s .args .book .now) (s .args .i) (p .there)) (p .good)), p .sound)
+in-ranges : (s : tie.Start) → BlockRanges (blockOf (now (s .args .book)) (s .args .i))
+in-ranges s = block-ranges _ (block-long (s .args .book .now) (s .args .i) (s .pre .there)) (s .pre .good)
+
+alone-requires : tie.Need-alone-requires
+alone-requires c κs = (c .pre .there, in-ranges c .kind-upto)
+
+joint-figures-requires : tie.Need-joint-figures-requires
+joint-figures-requires c κs =
+    let s = c .before in
+    (subst (MemberRanges (now (s .args .book))) (sym (c .alone .ensures)) (alone-ranges _ (s .args .i) (s .pre .there) (in-ranges s)), s .pre .sound)
 
 returns : tie.Need-returns
-returns c = let a = c .before .before .args in
-    c .block-figures .ensures
-    ∙ ap (λ (b : List ℤ). blockFigures b (lent (a .clearing) (a .own) (a .groups))) (c .before .block-of .ensures .0)
+returns c =
+    let a = c .before .before .args in
+    let tables = lent (a .clearing) (a .own) (a .groups) in
+    c .joint-figures .ensures
+    ∙ ap (λ (m : Members). jointFigures (overMembers m) (m .kind) (blockOf (now (a .book))) tables) (c .before .alone .ensures)
+    ∙ one-member (now (a .book)) (a .i) tables
 
 pub figures-at-spec : {M : Type 1} → statement M
-figures-at-spec = tie.close (tie.spec (λ c κs. search needs) block-figures-requires returns)
+figures-at-spec = tie.close (tie.spec alone-requires joint-figures-requires returns)

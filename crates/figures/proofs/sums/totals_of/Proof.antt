@@ -6,30 +6,35 @@ use borrow.Author.Needs.{needs}
 use denote.Ref.{now}
 use Rattle.whole.specs.Sums.{Σ<}
 use Rattle.whole.specs.Parts.{tabulated}
-use Rattle.rates.specs.Lent.{lent}
+use Rattle.rates.specs.Lent.{Tables, lent}
+use Rattle.book.specs.Block.{blockOf}
+use Rattle.book.specs.Members.{overMembers}
 use Rattle.assets.specs.Ranges.{PartRanges}
 use Rattle.assets.specs.declared.parts.Part.{Part}
-use Rattle.assets.proofs.Sizes.{small-ranges}
-use Rattle.figures.specs.Limit.{byGroup, totalsOf, partIn}
+use Rattle.figures.specs.Limit.{byGroup, totalsOf}
+use Rattle.figures.specs.Joint.{jointPart}
 use Rattle.figures.specs.Ranges.{TotalRanges}
 use Rattle.figures.proofs.sums.Steps.{totals-turn, totals-range, ranges-wider}
-use Rattle.figures.proofs.Below.{part-in-small}
+use Rattle.figures.proofs.SeveralBlocks.{member-part-range}
 use Rattle.figures.proofs.sums.totals_of.Statement.{statement}
 use Rattle.figures.proofs.sums.totals_of.Tie as tie
 
 abbrev Inv-loop : tie.InvT-loop
-Inv-loop block clearing own groups totals₀ a₀ totals a =
-    (a ≤ 16) × (totals ≡ totalsOf (partIn block (record { clearing = clearing; own = own; groups = groups })) a)
+Inv-loop book members clearing own groups totals₀ a₀ totals a =
+    let tables : Tables = record { clearing = clearing; own = own; groups = groups } in
+    (a ≤ 16) × (totals ≡ totalsOf (jointPart (overMembers members) (members .kind) (blockOf book) tables) a)
 
 abbrev μ-loop : tie.MeasureT-loop
-μ-loop block clearing own groups totals₀ a₀ totals a = 16 - a
+μ-loop book members clearing own groups totals₀ a₀ totals a = 16 - a
 
 -- the assets' parts, and their ranges
 abbrev parts : tie.Start Inv-loop μ-loop → ℕ → Part
-parts s = partIn (now (s .args .block)) (lent (s .args .clearing) (s .args .own) (s .args .groups))
+parts s =
+    let a = s .args in
+    jointPart (overMembers (a .members)) (a .members .kind) (blockOf (now (a .book))) (lent (a .clearing) (a .own) (a .groups))
 
 part-range : (s : tie.Start Inv-loop μ-loop) (a : ℕ) → a < 16 → PartRanges (parts s a)
-part-range s a l = small-ranges (part-in-small _ _ (s .pre .0) (s .pre .1) a l)
+part-range s a l = member-part-range _ _ _ (s .pre .0) (s .pre .1) a l
 
 loop-holds : tie.Need-loop-holds Inv-loop μ-loop
 unfolding totalsOf byGroup Σ< tabulated
