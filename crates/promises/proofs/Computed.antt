@@ -2,7 +2,7 @@
 use mathlib.Core.Path.{refl}
 use Rattle.whole.specs.Numbers.{minℤ, maxℤ, absℤ, dividedDown, dividedUp}
 use Rattle.whole.specs.Bounds.{between}
-use Rattle.whole.specs.Sums.{Σ<}
+use Rattle.whole.specs.Sums.{Σ<, Σ<on}
 use Rattle.whole.specs.Parts.{part, put, tabulated}
 use Rattle.whole.specs.Marks.{allTrue, allZero, every, pieces}
 use Rattle.whole.specs.Refusals.{firstCode, leaves}
@@ -17,36 +17,41 @@ use Rattle.book.specs.AtAccount.{atAccount}
 use Rattle.book.specs.Rules.{headMarks, holdingRight, inBounds, goodBlock, holdsListed}
 use Rattle.assets.specs.Collateral.{poolShareInForce, shareByKind, regimeOf, counted}
 use Rattle.assets.specs.Asset.{net, trades, adjustedCollateral, position, leftOut, valuedCollateral, worthOf, assetUnder}
+use Rattle.assets.specs.Joint.{jointAsset}
 use Rattle.assets.specs.Risk.{charge, unitsCharge, marketCharge, sideRisk, positionSum, longSum, shortSum, marketRisk, fallCharge, riseCharge, interestOf, interestRisk}
 use Rattle.assets.specs.Part.{longRisk, shortRisk, groupOf, partOf}
 use Rattle.figures.specs.Limit.{inGroup, byGroup, totalsOf, discountOf, discount, singleLimit, figuresOf, rublesOf, partIn, blockFigures}
+use Rattle.figures.specs.Joint.{jointPart, jointFigures}
 use Rattle.engine.specs.Refused.{enough, raised, admitted}
 use Rattle.engine.specs.Calls.{outcomeOf, ordering, judgedTrade}
 use Rattle.engine.specs.Report.{reportOf}
 use Rattle.promises.specs.Sums.{written, zeros, SumsMet}
 use Rattle.promises.specs.Wrong.{reckoned, same, meets, withSides, unitRisk, exactDiscount, roundedLast, WaysRefused}
+use Rattle.promises.specs.JointSums.{JointSumsMet}
 use Rattle.promises.specs.Needed.{CasesAnswered, Facts}
 use Rattle.promises.specs.OwnRows.{Raised}
 
 pub record Computed : Type 0 where
   pub sums-met : SumsMet
   pub ways-refused : WaysRefused
+  pub joint-sums-met : JointSumsMet
   pub cases-answered : CasesAnswered
   pub facts : Facts
   pub raised : Raised
 
 pub computed : Computed
-unfolding written zeros added moveAt minℤ maxℤ absℤ dividedDown dividedUp between Σ< part put tabulated allTrue pieces allZero firstCode leaves termMarks
+unfolding written zeros added moveAt minℤ maxℤ absℤ dividedDown dividedUp between Σ< Σ<on part put tabulated allTrue pieces allZero firstCode leaves termMarks
     rateMarks limitMarks dateMarks listedMarks rowMarks listed ownKindRight ownRowMarks clearingMarks ownMarks tableMarks lengthsRight soundTables
     stricterTerms stricterRates stricterLimits stricterDate stricterRow stricterOwnRow stricterAt onlyStricter
     inForce highestRate outerWidth coverTest headMarks holdingRight every inBounds goodBlock holdsListed poolShareInForce shareByKind regimeOf counted
     net trades adjustedCollateral position leftOut valuedCollateral worthOf assetUnder charge unitsCharge marketCharge sideRisk positionSum longSum
     shortSum marketRisk fallCharge riseCharge interestOf interestRisk longRisk shortRisk groupOf partOf inGroup byGroup totalsOf discountOf discount
-    singleLimit figuresOf rublesOf partIn blockFigures moneyOf traded atAccount enough raised admitted judgedTrade ordering outcomeOf reportOf
+    singleLimit figuresOf rublesOf partIn blockFigures jointAsset jointPart jointFigures moneyOf traded atAccount enough raised admitted judgedTrade ordering outcomeOf reportOf
     reckoned same meets withSides unitRisk exactDiscount roundedLast
 computed = record {
   sums-met = refl;
   ways-refused = refl;
+  joint-sums-met = refl;
   cases-answered = refl;
   facts = record {
     long = refl;
