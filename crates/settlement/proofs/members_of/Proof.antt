@@ -1,0 +1,32 @@
+-- `settlement::members_of` meets its contract: an account on no code is its own list. Assumes nothing.
+use mathlib.Core.Path.{sym, ap, subst}
+use borrow.Author.Needs.{needs}
+use denote.Ref.{now}
+use Rattle.whole.proofs.Tests.{passed}
+use Rattle.book.specs.declared.members.Members.{Members}
+use Rattle.settlement.specs.Code.{onCode}
+use Rattle.settlement.specs.Members.{Lists}
+use Rattle.settlement.proofs.Mates.{on-itself}
+use Rattle.settlement.proofs.Alone.{alone-in-list}
+use Rattle.settlement.proofs.members_of.Statement.{statement}
+use Rattle.settlement.proofs.members_of.Tie as tie
+
+alone-requires : tie.Need-alone-requires
+alone-requires c κs =
+    let s = c .before .before in
+    let own = s .pre .block (s .args .i) (s .pre .below) (on-itself (now (s .args .book)) (s .args .i)) in
+    (record { long = s .pre .long; below = s .pre .below }, own .kind-upto)
+
+returns : tie.Need-returns
+returns c =
+    let t = c .before in
+    let s = t .before .before in
+    let itself = alone-in-list (now (s .args .book)) (s .args .i) (s .pre .below) (passed (t .before .on-no-code .ensures) (t .if1 .taken)) in (
+      subst (Lists (onCode (now (s .args .book)) (s .args .i)) 16) (sym (c .alone .ensures)) itself,
+      ap (λ (m : Members). m .kind) (c .alone .ensures),
+    )
+
+pub members-of-spec : {M : Type 1} → statement M
+members-of-spec =
+    tie.close
+    (tie.spec (λ c κs. search needs) alone-requires returns (λ c κs. search needs) (λ c. search needs))

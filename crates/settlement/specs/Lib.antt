@@ -1,0 +1,4 @@
+-- The blocks of a settlement code (clause 4.11): which they are, when they are right, the list of them, and what holds of them.
+pub mod Code
+pub mod Members
+pub mod Laws
