@@ -139,7 +139,7 @@ pub fn asset_of(kind: usize, row: &[i64], holding: &[i64]) -> Asset
     }
 }
 
-// A record with another block's added to it (4.11). The blocks have one kind, so the regime is that of both.
+// A record with another block's added to it (4.11). The regime is x's: blocks of one kind have the same, and the caller hands in such.
 pub fn with_record(x: Asset, y: Asset) -> Asset
     requires { ⌜ AssetRanges 3 x × AssetRanges 1 y ⌝ }
     ensures { λ r. ⌜ r ≡ withRecord x y ⌝ }

@@ -10,11 +10,11 @@ use Rattle.whole.specs.Bounds.{equal, isZero}
 use Rattle.book.specs.Block.{blockOf, accountKind, settlementCode}
 use Rattle.book.specs.Rules.{goodBlock, holdsListed}
 use Rattle.settlement.specs.Code.{onCode, memberRight, codeRight, codeHoldsListed}
-use Rattle.settlement.specs.Laws.{Alike, AlikeOn, AlikeRight, AlikeHoldsListed}
+use Rattle.settlement.specs.Laws.{AlikeBlocks, AlikeOn, AlikeRight, AlikeHoldsListed}
 use Rattle.settlement.proofs.Codes.{count-same, each-same}
 use Rattle.settlement.proofs.Mates.{on-itself}
 
-module _ (i : ℕ) (book other : List ℤ) (l : i < 16) (alike : Alike i book other) where
+module _ (i : ℕ) (book other : List ℤ) (l : i < 16) (alike : AlikeBlocks i book other) where
   -- the account's own block is the same, for it is on its code
   own-same : blockOf book i ≡ blockOf other i
   own-same = alike i l (inl (on-itself book i))

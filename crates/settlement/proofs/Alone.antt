@@ -9,11 +9,12 @@ use Rattle.whole.proofs.Bounds.{equal-yes}
 use Rattle.whole.proofs.Lists.{and-true}
 use Rattle.book.specs.Block.{blockOf}
 use Rattle.book.specs.Rules.{goodBlock, holdsListed}
+use Rattle.book.specs.Members.{kindAt}
 use Rattle.settlement.specs.Code.{onCode, memberRight, codeRight, codeHoldsListed}
 use Rattle.settlement.specs.Laws.{OnNoCode, AloneInList, AloneRight, AloneHoldsListed}
-use Rattle.settlement.proofs.Codes.{count-alone, each-alone}
+use Rattle.settlement.proofs.Codes.{each-alone}
 use Rattle.settlement.proofs.Mates.{alone-on}
-use Rattle.settlement.proofs.Listing.{lists-alone}
+use Rattle.settlement.proofs.Listing.{list-alone, count-alone}
 
 alone : (book : List ℤ) (i : ℕ) → OnNoCode book i → (j : ℕ) → j < 16 → onCode book i j ≡ eqb i j
 alone book i none j q = alone-on book i none j
@@ -24,14 +25,14 @@ unfolding memberRight
 own-right book i = ap (λ (t : Bool). goodBlock (blockOf book i) && t) (equal-yes refl) ∙ and-true (goodBlock (blockOf book i))
 
 pub alone-in-list : AloneInList
-alone-in-list book i l none = lists-alone (onCode book i) book i l (alone book i none)
+alone-in-list book i l none = list-alone (onCode book i) (kindAt book i) i 16 (alone book i none) l
 
 pub alone-right : AloneRight
 unfolding codeRight
 alone-right book i l none =
     ap₂ (λ (t : Bool) (n : ℕ). t && leb n 4)
     (each-alone (onCode book i) (memberRight book i) i l (alone book i none) ∙ own-right book i)
-    (count-alone (onCode book i) i 16 (alone book i none) l)
+    (count-alone (onCode book i) (kindAt book i) i 16 (alone book i none) l)
     ∙ and-true (goodBlock (blockOf book i))
 
 pub alone-holds-listed : AloneHoldsListed

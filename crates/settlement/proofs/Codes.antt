@@ -37,7 +37,7 @@ module _ (on : ℕ → Bool) where
   unfolding countOn
   count-none = refl
 
-  count-suc : (n : ℕ) → countOn on (suc n) ≡ countOn on n + cond (on n) 1 0
+  pub count-suc : (n : ℕ) → countOn on (suc n) ≡ countOn on n + cond (on n) 1 0
   unfolding countOn
   count-suc n = refl
 
@@ -60,7 +60,7 @@ module _ (on : ℕ → Bool) where
     count-joined e = count-suc n ∙ ap (λ (t : Bool). countOn on n + cond t 1 0) e
 
   -- more accounts, no fewer on the code
-  count-more : (n m : ℕ) → n ≤ m → countOn on n ≤ countOn on m
+  pub count-more : (n m : ℕ) → n ≤ m → countOn on n ≤ countOn on m
   count-more n zero l = omega (arith, ap (countOn on) (let e : n ≡ 0 = omega arith in e))
   count-more n (suc m) l =
       ⊎-elim (λ e. omega (arith, ap (countOn on) e)) (λ h. let i = count-more n m (omega arith) in omega (arith, count-suc m))
@@ -69,26 +69,6 @@ module _ (on : ℕ → Bool) where
   -- before one that is on the code there is room for it, and with it there is at least one
   pub room-before : (j n : ℕ) → j < n → on j ≡ true → countOn on j < countOn on n
   room-before j n l e = let q = count-joined j e in let h = count-more (suc j) n (omega arith) in omega arith
-
-  -- ---- one account alone is on the code
-  module _ (i n : ℕ) (alone : (j : ℕ) → j < n → on j ≡ eqb i j) where
-    none-before : (k : ℕ) → k ≤ n → k ≤ i → countOn on k ≡ 0
-    unfolding countOn
-    none-before zero h l = refl
-    none-before (suc k) h l =
-        ap₂ (λ (m : ℕ) (t : Bool). m + cond t 1 0) (none-before k (omega arith) (omega arith)) (alone k (omega arith) ∙ ne-eqb i k (λ e. omega arith))
-
-    one-after : (k : ℕ) → k ≤ n → i < k → countOn on k ≡ 1
-    unfolding countOn
-    one-after zero h l = absurd (omega arith)
-    one-after (suc k) h l =
-        ⊎-elim
-        (λ e. ap₂ (λ (m : ℕ) (t : Bool). m + cond t 1 0) (none-before k (omega arith) (omega arith)) (alone k (omega arith) ∙ eq-eqb i k e))
-        (λ q. ap₂ (λ (m : ℕ) (t : Bool). m + cond t 1 0) (one-after k (omega arith) q) (alone k (omega arith) ∙ ne-eqb i k (λ e. omega arith)))
-        (eq-or-lt-of-le (let p : i ≤ k = omega arith in p))
-
-    pub count-alone : i < n → countOn on n ≡ 1
-    count-alone = one-after n (omega arith)
 
 -- the same accounts are on two codes
 pub count-same : (on on′ : ℕ → Bool) (n : ℕ) → ((j : ℕ) → j < n → on j ≡ on′ j) → countOn on n ≡ countOn on′ n

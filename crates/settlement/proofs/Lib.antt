@@ -7,3 +7,4 @@ pub mod Right
 pub mod Kept
 pub mod Listed
 pub mod Alike
+pub mod Examples

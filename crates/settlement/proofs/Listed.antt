@@ -8,17 +8,19 @@ use native.Mathlib.Nat.{eq-or-lt-of-le}
 use native.Mathlib.Omega.{arith}
 use lib.Dec.{eqb}
 use lib.IntN.{ℤ, pos, natAbs, _+ℤ_}
-use borrow.Author.Tests.{eq-eqb, ne-eqb, eqb-true, eqb-false}
+use borrow.Author.Tests.{eq-eqb, ne-eqb, eqb-true, eqb-false, leb-true}
 use Rattle.whole.specs.Sums.{Σ<on}
 use Rattle.whole.proofs.Rules.{ints}
 use Rattle.whole.proofs.Sums.{sum-zero}
 use Rattle.whole.proofs.SumsOn.{on-counts}
-use Rattle.book.specs.Members.{memberAt}
+use Rattle.book.specs.Members.{memberAt, kindAt}
 use Rattle.settlement.specs.Code.{onCode}
+use Rattle.settlement.specs.Members.{membersOf}
 use Rattle.settlement.specs.Laws.{MembersRise, EveryoneAMember, MembersOfOneKind, MembersInRange}
 use Rattle.settlement.proofs.Codes.{room-before}
 use Rattle.settlement.proofs.Mates.{on-itself}
-use Rattle.settlement.proofs.Right.{member-kind}
+use Rattle.settlement.proofs.Listing.{list-lists, list-kind}
+use Rattle.settlement.proofs.Right.{four-most, member-kind}
 
 pub members-rise : MembersRise
 members-rise on n m h k zero q l = absurd (omega arith)
@@ -68,11 +70,13 @@ everyone-a-member on n m h j l here = ⊎-elim (λ found. found) (λ none. absur
         omega ints
 
 pub members-of-one-kind : MembersOfOneKind
-members-of-one-kind book i m right h kind k l =
-    ap natAbs (member-kind book i (memberAt m k) (h .below k l) (h .on-code k l) right) ∙ sym kind
+members-of-one-kind book i right k l =
+    let h = list-lists (onCode book i) (kindAt book i) 16 (leb-true _ _ (four-most book i right)) in
+    ap natAbs (member-kind book i (memberAt (membersOf book i) k) (h .below k l) (h .on-code k l) right) ∙ sym (list-kind (onCode book i) (kindAt book i) 16)
 
 pub members-in-range : MembersInRange
-members-in-range book i m ranges h =
+members-in-range book i ranges =
+    let h = list-lists (onCode book i) (kindAt book i) 16 (ranges .few) in
     let some = room-before (onCode book i) i 16 (ranges .below) (on-itself book i) in
     record {
       long = ranges .long;
@@ -80,5 +84,5 @@ members-in-range book i m ranges h =
       some = omega (arith, h .counted, some);
       few = omega (arith, h .counted, ranges .few);
       below = h .below;
-      block = λ k l. ranges .block (memberAt m k) (h .below k l) (h .on-code k l);
+      block = λ k l. ranges .block (memberAt (membersOf book i) k) (h .below k l) (h .on-code k l);
     }

@@ -10,6 +10,7 @@ use Rattle.whole.specs.Bounds.{equal, isZero}
 use Rattle.whole.specs.Marks.{every}
 use Rattle.book.specs.Block.{accounts, blockOf, accountKind, settlementCode}
 use Rattle.book.specs.Rules.{goodBlock, holdsListed}
+use Rattle.book.specs.Members.{mostMembers}
 
 -- whether block j is on the code of account i
 unfoldable pub onCode : List ℤ → ℕ → ℕ → Bool
@@ -33,7 +34,7 @@ memberRight book i j = goodBlock (blockOf book j) && equal (accountKind (blockOf
 
 -- what refusal 6 is to ask of a code: every block on it is right, and there are at most four (a code outside 0 to 15 will be a broken block)
 unfoldable pub codeRight : List ℤ → ℕ → Bool
-codeRight book i = everyOn (onCode book i) (memberRight book i) && leb (countOn (onCode book i) accounts) 4
+codeRight book i = everyOn (onCode book i) (memberRight book i) && leb (countOn (onCode book i) accounts) mostMembers
 
 -- and where tables are lent: no block on it has a holding in an unlisted asset
 unfoldable pub codeHoldsListed : List ℤ → ℕ → List ℤ → Bool

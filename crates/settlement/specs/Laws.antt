@@ -6,7 +6,7 @@ use mathlib.Core.Path.{_≡_}
 use mathlib.Core.Bool.{Bool, true}
 use mathlib.Core.Logic.{_⊎_}
 use mathlib.Core.List.{List}
-use Prim.Native.Nat.{ℕ, _<_}
+use Prim.Native.Nat.{ℕ, _<_, _≤_}
 use lib.Dec.{eqb}
 use lib.IntN.{ℤ}
 use lib.ListN.{length}
@@ -14,10 +14,10 @@ use Rattle.whole.specs.Bounds.{isZero}
 use Rattle.book.specs.Block.{accounts, blockLength, blockOf, putBlock, accountKind, settlementCode}
 use Rattle.book.specs.Rules.{goodBlock, holdsListed}
 use Rattle.book.specs.AtAccount.{InBook}
-use Rattle.book.specs.Members.{memberAt, kindAt, aloneAt, MemberRanges}
+use Rattle.book.specs.Members.{mostMembers, memberAt, kindAt, aloneAt, MemberRanges}
 use Rattle.book.specs.declared.members.Members.{Members}
-use Rattle.settlement.specs.Code.{onCode, codeRight, codeHoldsListed}
-use Rattle.settlement.specs.Members.{Lists, CodeRanges}
+use Rattle.settlement.specs.Code.{onCode, countOn, codeRight, codeHoldsListed}
+use Rattle.settlement.specs.Members.{listOf, membersOf, Lists, CodeRanges}
 
 -- ---- who is on a code: clause 4.11 values its accounts together, whichever of them asks
 -- an account is on its own
@@ -42,7 +42,7 @@ AloneOn = (book : List ℤ) (i : ℕ) → OnNoCode book i → (j : ℕ) → onCo
 
 -- its list is itself
 abbrev pub AloneInList : Type 0
-AloneInList = (book : List ℤ) (i : ℕ) → i < accounts → OnNoCode book i → Lists (onCode book i) accounts (aloneAt book i)
+AloneInList = (book : List ℤ) (i : ℕ) → i < accounts → OnNoCode book i → membersOf book i ≡ aloneAt book i
 
 -- and its block alone decides: refusal 6 reads as it did before #104
 abbrev pub AloneRight : Type 0
@@ -53,19 +53,19 @@ AloneHoldsListed =
     (book : List ℤ) (i : ℕ) → i < accounts → OnNoCode book i
     → (clearing : List ℤ) → codeHoldsListed book i clearing ≡ holdsListed (blockOf book i) clearing
 
--- ---- a right code: what refusal 6 will ask without tables (#104). Until number 13 of a good block may be other than 0, a right code is one account's
--- has what its figures ask: at most four blocks, with their numbers in range
+-- ---- a right code: what refusal 6 will ask without tables (#104). Until number 13 of a good block may be other than 0, it is one account's
+-- it has what its figures ask: at most four blocks, with their numbers in range
 abbrev pub RightInRange : Type 0
 RightInRange = (book : List ℤ) (i : ℕ) → InBook book i → codeRight book i ≡ true → CodeRanges book i
 
--- is right for every account on it, and listed for every one where it is for one: 6 turns away a whole code
+-- it is right for every account on it, and listed for every one where it is for one: 6 turns away a whole code
 abbrev pub MateRight : Type 0
 MateRight = (book : List ℤ) (i j : ℕ) → j < accounts → onCode book i j ≡ true → codeRight book i ≡ true → codeRight book j ≡ true
 
 abbrev pub MateHoldsListed : Type 0
 MateHoldsListed = (book : List ℤ) (i j : ℕ) → onCode book i j ≡ true → (clearing : List ℤ) → codeHoldsListed book i clearing ≡ codeHoldsListed book j clearing
 
--- has good blocks of one kind
+-- it has good blocks of one kind
 abbrev pub MemberGood : Type 0
 MemberGood = (book : List ℤ) (i j : ℕ) → j < accounts → onCode book i j ≡ true → codeRight book i ≡ true → goodBlock (blockOf book j) ≡ true
 
@@ -74,8 +74,15 @@ MemberKind =
     (book : List ℤ) (i j : ℕ) → j < accounts → onCode book i j ≡ true → codeRight book i ≡ true
     → accountKind (blockOf book j) ≡ accountKind (blockOf book i)
 
--- ---- the list of a code, over which clause 4.11 adds: its clause `on-code` says that every member is on the code
--- members come by rising account, so none twice
+-- ---- the list of a code, over which clause 4.11 adds
+-- it lists those on the code, where there is room for them, and has the kind that it is made under
+abbrev pub ListLists : Type 0
+ListLists = (on : ℕ → Bool) (kind n : ℕ) → countOn on n ≤ mostMembers → Lists on n (listOf on kind n)
+
+abbrev pub ListKind : Type 0
+ListKind = (on : ℕ → Bool) (kind n : ℕ) → listOf on kind n .kind ≡ kind
+
+-- members come by rising account, so none twice; that each is on the code is a clause of `Lists`
 abbrev pub MembersRise : Type 0
 MembersRise =
     (on : ℕ → Bool) (n : ℕ) (m : Members) → Lists on n m → (k l : ℕ) → k < l → l < m .count → memberAt m k < memberAt m l
@@ -89,12 +96,12 @@ EveryoneAMember =
 -- the members of a right code have the kind that the list says
 abbrev pub MembersOfOneKind : Type 0
 MembersOfOneKind =
-    (book : List ℤ) (i : ℕ) (m : Members) → codeRight book i ≡ true → Lists (onCode book i) accounts m → m .kind ≡ kindAt book i
-    → (k : ℕ) → k < m .count → kindAt book (memberAt m k) ≡ m .kind
+    (book : List ℤ) (i : ℕ) → codeRight book i ≡ true
+    → (k : ℕ) → k < membersOf book i .count → kindAt book (memberAt (membersOf book i) k) ≡ membersOf book i .kind
 
 -- the members of a code in range can be valued
 abbrev pub MembersInRange : Type 0
-MembersInRange = (book : List ℤ) (i : ℕ) (m : Members) → CodeRanges book i → Lists (onCode book i) accounts m → MemberRanges book m
+MembersInRange = (book : List ℤ) (i : ℕ) → CodeRanges book i → MemberRanges book (membersOf book i)
 
 -- ---- what a change of one block keeps: block j replaced by another of 288 numbers whose number 13 is the same (only opening writes that, #104)
 pub record SameCode (book : List ℤ) (j : ℕ) (new : List ℤ) : Type 0 where
@@ -121,16 +128,16 @@ HoldsListedKept =
     → (i : ℕ) → i < accounts → codeHoldsListed book i clearing ≡ true → codeHoldsListed (putBlock book j new) i clearing ≡ true
 
 -- ---- a code sees its own blocks and no others (#104): two books, of any length, in which every block that is on account i's code in either is the same
-abbrev pub Alike : ℕ → List ℤ → List ℤ → Type 0
-Alike i book other = (j : ℕ) → j < accounts → (onCode book i j ≡ true) ⊎ (onCode other i j ≡ true) → blockOf book j ≡ blockOf other j
+abbrev pub AlikeBlocks : ℕ → List ℤ → List ℤ → Type 0
+AlikeBlocks i book other = (j : ℕ) → j < accounts → (onCode book i j ≡ true) ⊎ (onCode other i j ≡ true) → blockOf book j ≡ blockOf other j
 
 abbrev pub AlikeOn : Type 0
 AlikeOn =
-    (i : ℕ) (book other : List ℤ) → i < accounts → Alike i book other → (j : ℕ) → j < accounts → onCode book i j ≡ onCode other i j
+    (i : ℕ) (book other : List ℤ) → i < accounts → AlikeBlocks i book other → (j : ℕ) → j < accounts → onCode book i j ≡ onCode other i j
 
 abbrev pub AlikeRight : Type 0
-AlikeRight = (i : ℕ) (book other : List ℤ) → i < accounts → Alike i book other → codeRight book i ≡ codeRight other i
+AlikeRight = (i : ℕ) (book other : List ℤ) → i < accounts → AlikeBlocks i book other → codeRight book i ≡ codeRight other i
 
 abbrev pub AlikeHoldsListed : Type 0
 AlikeHoldsListed =
-    (i : ℕ) (book other clearing : List ℤ) → i < accounts → Alike i book other → codeHoldsListed book i clearing ≡ codeHoldsListed other i clearing
+    (i : ℕ) (book other clearing : List ℤ) → i < accounts → AlikeBlocks i book other → codeHoldsListed book i clearing ≡ codeHoldsListed other i clearing

@@ -1,13 +1,12 @@
 ghost use mathlib.Core.Path.{_≡_};
-ghost use mathlib.Core.Bool.{cond};
-ghost use Prim.Native.Nat.{suc, _<_};
+ghost use mathlib.Core.Bool.{true, cond};
+ghost use Prim.Native.Nat.{_<_};
 ghost use Rattle.whole.specs.Bounds.{isZero};
 ghost use Rattle.book.specs.Block.{blockOf, settlementCode};
 ghost use Rattle.book.specs.Rules.{holdsListed};
 ghost use Rattle.book.specs.AtAccount.{InBook};
-ghost use Rattle.book.specs.Members.{kindAt};
 ghost use Rattle.settlement.specs.Code.{onCode, countOn, whereOn, everyOn, memberRight, codeRight, codeHoldsListed};
-ghost use Rattle.settlement.specs.Members.{Lists, CodeRanges};
+ghost use Rattle.settlement.specs.Members.{joined, membersOf, CodeRanges};
 use book::Members;
 use book::in_block;
 
@@ -33,12 +32,15 @@ fn on_code(book: &[i64], i: usize, j: usize) -> bool
     if i == j {
         return true;
     }
-    let own = book::block_of(book, i);
-    let code = own[in_block::SETTLEMENT_CODE];
-    if whole::lies_between(0, code, 0) {
+    if on_no_code(book, i) {
         return false;
     }
-    whole::number_is(book::block_of(book, j), in_block::SETTLEMENT_CODE, code)
+    let own = book::block_of(book, i);
+    whole::number_is(
+        book::block_of(book, j),
+        in_block::SETTLEMENT_CODE,
+        own[in_block::SETTLEMENT_CODE],
+    )
 }
 
 // Whether block j keeps the block rules and has account i's kind.
@@ -156,10 +158,10 @@ pub fn code_holds_listed(book: &[i64], i: usize, clearing: &[i64]) -> bool
     members_hold_listed(book, i, clearing)
 }
 
-// The list with block j, where it is on account i's code.
+// The list with block j, where it is on account i's code; there is room for it.
 fn with_member(members: Members, book: &[i64], i: usize, j: usize) -> Members
-    requires { ⌜ CodeRanges (now book) i × (j < 16) × Lists (onCode (now book) i) j members ⌝ }
-    ensures { λ r. ⌜ Lists (onCode (now (book .entry)) i) (suc j) r × (r .kind ≡ members .kind) ⌝ }
+    requires { ⌜ InBook (now book) i × (j < 16) × (onCode (now book) i j ≡ true → members .count < 4) ⌝ }
+    ensures { λ r. ⌜ r ≡ cond (onCode (now (book .entry)) i j) (joined members j) members ⌝ }
 {
     if !on_code(book, i, j) {
         return members;
@@ -178,7 +180,7 @@ fn with_member(members: Members, book: &[i64], i: usize, j: usize) -> Members
 // The blocks on the code of account i, by a look at every account.
 fn gathered_members(book: &[i64], i: usize) -> Members
     requires { ⌜ CodeRanges (now book) i ⌝ }
-    ensures { λ r. ⌜ Lists (onCode (now (book .entry)) i) 16 r × (r .kind ≡ kindAt (now (book .entry)) i) ⌝ }
+    ensures { λ r. ⌜ r ≡ membersOf (now (book .entry)) i ⌝ }
 {
     let own = book::alone(book, i);
     let kind = own.kind;
@@ -198,7 +200,7 @@ fn gathered_members(book: &[i64], i: usize) -> Members
 // The blocks on the code of account i.
 pub fn members_of(book: &[i64], i: usize) -> Members
     requires { ⌜ CodeRanges (now book) i ⌝ }
-    ensures { λ r. ⌜ Lists (onCode (now (book .entry)) i) 16 r × (r .kind ≡ kindAt (now (book .entry)) i) ⌝ }
+    ensures { λ r. ⌜ r ≡ membersOf (now (book .entry)) i ⌝ }
 {
     if on_no_code(book, i) {
         return book::alone(book, i);

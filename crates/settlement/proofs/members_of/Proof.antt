@@ -1,11 +1,8 @@
 -- `settlement::members_of` meets its contract: an account on no code is its own list. Assumes nothing.
-use mathlib.Core.Path.{sym, ap, subst}
+use mathlib.Core.Path.{sym, _∙_}
 use borrow.Author.Needs.{needs}
 use denote.Ref.{now}
 use Rattle.whole.proofs.Tests.{passed}
-use Rattle.book.specs.declared.members.Members.{Members}
-use Rattle.settlement.specs.Code.{onCode}
-use Rattle.settlement.specs.Members.{Lists}
 use Rattle.settlement.proofs.Mates.{on-itself}
 use Rattle.settlement.proofs.Alone.{alone-in-list}
 use Rattle.settlement.proofs.members_of.Statement.{statement}
@@ -21,10 +18,8 @@ returns : tie.Need-returns
 returns c =
     let t = c .before in
     let s = t .before .before in
-    let itself = alone-in-list (now (s .args .book)) (s .args .i) (s .pre .below) (passed (t .before .on-no-code .ensures) (t .if1 .taken)) in (
-      subst (Lists (onCode (now (s .args .book)) (s .args .i)) 16) (sym (c .alone .ensures)) itself,
-      ap (λ (m : Members). m .kind) (c .alone .ensures),
-    )
+    c .alone .ensures
+    ∙ sym (alone-in-list (now (s .args .book)) (s .args .i) (s .pre .below) (passed (t .before .on-no-code .ensures) (t .if1 .taken)))
 
 pub members-of-spec : {M : Type 1} → statement M
 members-of-spec =

@@ -27,18 +27,18 @@ abbrev μ-loop : tie.MeasureT-loop
 loop-holds : tie.Need-loop-holds Inv-loop μ-loop
 loop-holds c = (omega arith, every-none _)
 
+loop-again : tie.Need-loop-again Inv-loop μ-loop
+loop-again c =
+    let l = c .before .before .before .loop in
+    let a = c .before .before .before .before .args in
+    (omega arith, every-next (asked (now (a .book)) (a .i)) (l .j) (l .inv .1) (left (c .before .right-where-on .ensures) (c .if1 .left)))
+
 returns : tie.Need-returns Inv-loop μ-loop
 unfolding everyOn
 returns c =
     let l = c .before .before .before .loop in
     let a = c .before .before .before .before .args in
     sym (every-out (asked (now (a .book)) (a .i)) 16 (l .j) (omega arith) (taken (c .before .right-where-on .ensures) (c .if1 .taken)))
-
-loop-again : tie.Need-loop-again Inv-loop μ-loop
-loop-again c =
-    let l = c .before .before .before .loop in
-    let a = c .before .before .before .before .args in
-    (omega arith, every-next (asked (now (a .book)) (a .i)) (l .j) (l .inv .1) (left (c .before .right-where-on .ensures) (c .if1 .left)))
 
 returns-2 : tie.Need-returns-2 Inv-loop μ-loop
 unfolding everyOn

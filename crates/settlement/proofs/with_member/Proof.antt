@@ -1,28 +1,27 @@
 -- `settlement::with_member` meets its contract: a block on the code goes to the next place of the list, which is free. Assumes nothing.
-use mathlib.Core.Path.{_≡_, refl}
-use mathlib.Core.Bool.{true}
+use mathlib.Core.Path.{_≡_, sym, ap}
+use mathlib.Core.Bool.{Bool, true, cond}
 use Prim.Native.Nat.{_<_}
 use native.Mathlib.Omega.{arith}
 use borrow.Author.Needs.{needs}
 use denote.Ref.{now}
 use Rattle.whole.proofs.Tests.{left, taken}
 use Rattle.settlement.specs.Code.{onCode}
-use Rattle.settlement.proofs.Codes.{room-before}
-use Rattle.settlement.proofs.Listing.{lists-passed, lists-joined}
+use Rattle.settlement.specs.Members.{joined}
 use Rattle.settlement.proofs.with_member.Statement.{statement}
 use Rattle.settlement.proofs.with_member.Tie as tie
 
 returns : tie.Need-returns
-returns c = (lists-passed _ _ _ (c .before .before .pre .2) (taken (c .before .on-code .ensures) (c .if1 .taken)), refl)
+returns c =
+    let a = c .before .before .args in
+    ap (λ (t : Bool). cond t (joined (a .members) (a .j)) (a .members)) (sym (taken (c .before .on-code .ensures) (c .if1 .taken)))
 
--- block j is on the code, and the list is shorter than the code
+-- block j is on the code, so there is room for it
 here : (c : tie.After-at) → let a = c .before .before .before .args in onCode (now (a .book)) (a .i) (a .j) ≡ true
 here c = left (c .before .before .on-code .ensures) (c .before .if1 .left)
 
 free : (c : tie.After-at) → c .before .before .before .args .members .count < 4
-free c =
-    let s = c .before .before .before in
-    omega (arith, s .pre .2 .counted, s .pre .0 .few, room-before (onCode (now (s .args .book)) (s .args .i)) (s .args .j) 16 (s .pre .1) (here c))
+free c = c .before .before .before .pre .2 (here c)
 
 mul-at : tie.Need-mul-at
 mul-at c = omega (arith, free c)
@@ -34,7 +33,9 @@ add-t10 : tie.Need-add-t10
 add-t10 c = omega (arith, free c)
 
 returns-2 : tie.Need-returns-2
-returns-2 c = (lists-joined _ _ _ (c .before .before .before .pre .2) (here c) (free c), refl)
+returns-2 c =
+    let a = c .before .before .before .args in
+    ap (λ (t : Bool). cond t (joined (a .members) (a .j)) (a .members)) (sym (here c))
 
 pub with-member-spec : {M : Type 1} → statement M
 with-member-spec = tie.close (tie.spec (λ c κs. search needs) returns mul-at array-write-at add-t10 returns-2)

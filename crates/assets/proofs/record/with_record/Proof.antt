@@ -39,9 +39,6 @@ date-runs c =
     sum-runs (positions-range 3 _ (s .pre .0) (omega arith) .each d (omega arith)) (positions-range 1 _ (s .pre .1) (omega arith) .each d (omega arith))
     (omega arith)
 
-add-positions : tie.Need-add-positions Inv-loop μ-loop
-add-positions c = need! (date-sum c) (date-runs c)
-
 loop-again : tie.Need-loop-again Inv-loop μ-loop
 loop-again c =
     let l = c .before .before .before .loop in (
@@ -50,6 +47,9 @@ loop-again c =
       l .inv .2,
       filled-next _ (l .d) _ _ _ (pos 0) (omega arith) (l .inv .3) (runs (date-sum c) (date-runs c)),
     )
+
+add-positions : tie.Need-add-positions Inv-loop μ-loop
+add-positions c = need! (date-sum c) (date-runs c)
 
 -- the call, seen from its end, and the sum of the worths
 abbrev began : tie.After-struct-told2 Inv-loop μ-loop → tie.Start Inv-loop μ-loop

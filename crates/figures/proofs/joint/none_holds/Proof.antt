@@ -28,17 +28,17 @@ abbrev μ-loop : tie.MeasureT-loop
 loop-holds : tie.Need-loop-holds Inv-loop μ-loop
 loop-holds c = (omega arith, every-none _)
 
-returns : tie.Need-returns Inv-loop μ-loop
-returns c =
-    let l = c .before .before .before .before .loop in
-    let held = ap allZero (sym (c .before .before .holding-of .ensures)) ∙ taken (c .before .all-zero .ensures) (c .if1 .taken) in
-    sym (every-out _ _ (l .k) (omega arith) held)
-
 loop-again : tie.Need-loop-again Inv-loop μ-loop
 loop-again c =
     let l = c .before .before .before .before .loop in
     let empty = ap allZero (sym (c .before .before .holding-of .ensures)) ∙ left (c .before .all-zero .ensures) (c .if1 .left) in
     (omega arith, every-next _ (l .k) (l .inv .1) empty)
+
+returns : tie.Need-returns Inv-loop μ-loop
+returns c =
+    let l = c .before .before .before .before .loop in
+    let held = ap allZero (sym (c .before .before .holding-of .ensures)) ∙ taken (c .before .all-zero .ensures) (c .if1 .taken) in
+    sym (every-out _ _ (l .k) (omega arith) held)
 
 returns-2 : tie.Need-returns-2 Inv-loop μ-loop
 returns-2 c = every-done _ (c .before .loop .inv .1) (omega arith)

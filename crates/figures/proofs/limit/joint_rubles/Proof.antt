@@ -20,10 +20,6 @@ Inv-loop book members count sum₀ k₀ sum k = Summing _within_ (members .count
 abbrev μ-loop : tie.MeasureT-loop
 μ-loop book members count sum₀ k₀ sum k = members .count - k
 
-rubles-of-requires : tie.Need-rubles-of-requires Inv-loop μ-loop
-rubles-of-requires c κs =
-    subst BlockRanges (sym (c .member-block .ensures)) (c .before .before .before .pre .block (c .before .before .loop .k) (omega arith))
-
 -- what is added
 ruble : (c : tie.After-rubles-of Inv-loop μ-loop) → let a = c .before .before .before .before .args in let x = c .rubles-of .result in
     (x ≡ rublesOf (blockOf (now (a .book)) (memberAt (a .members) (c .before .before .before .loop .k)))) × (x within 900000000000000)
@@ -43,6 +39,10 @@ returns : tie.Need-returns Inv-loop μ-loop
 returns c =
     let all = ends withins (c .before .loop .inv) (omega arith) in
     (all .0, wider 3600000000000000 (all .1) (let few = c .before .before .pre .few in omega arith))
+
+rubles-of-requires : tie.Need-rubles-of-requires Inv-loop μ-loop
+rubles-of-requires c κs =
+    subst BlockRanges (sym (c .member-block .ensures)) (c .before .before .before .pre .block (c .before .before .loop .k) (omega arith))
 
 pub joint-rubles-spec : {M : Type 1} → statement M
 joint-rubles-spec =
