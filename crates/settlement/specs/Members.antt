@@ -18,7 +18,8 @@ use Rattle.settlement.specs.Code.{onCode, countOn}
 abbrev pub joined : Members → ℕ → Members
 joined m j = record { kind = m .kind; count = m .count + 1; at = set (m .at) (m .count) j }
 
--- those of the accounts 0, 1, .., n − 1 that are on a code, under the kind that they share; the places behind them are 0
+-- those of the accounts 0, 1, .., n − 1 that are on a code, under the kind that they share; the places behind them are 0, and a fifth is counted and has
+-- none
 unfoldable pub listOf : (ℕ → Bool) → ℕ → ℕ → Members
 listOf on kind zero = record { kind = kind; count = 0; at = 0 ∷ 0 ∷ 0 ∷ 0 ∷ [] }
 listOf on kind (suc n) = cond (on n) (joined (listOf on kind n) n) (listOf on kind n)
