@@ -63,8 +63,9 @@ module _ (n : ℕ) (sum : (ℕ → ℤ) → ℤ) (j : ℕ) (counts : CountsOnce 
       λ i. record { regime = regime; worth = worth i; positions = positions i }
 
 -- ---- holdings by account, of which block j's alone changes, and in it the collateral alone
-module _ (n : ℕ) (sum : (ℕ → ℤ) → ℤ) (j : ℕ) (counts : CountsOnce n sum j) (accountKind : ℕ) (row : List ℤ) (r : RowRanges row) (holdings holdings′ : ℕ → List ℤ)
-    (others : (k : ℕ) → k < n → k ≢ j → holdings′ k ≡ holdings k) (same : (k : ℕ) → k ≢ 0 → number (holdings′ j) k ≡ number (holdings j) k) where
+module _ (n : ℕ) (sum : (ℕ → ℤ) → ℤ) (j : ℕ) (counts : CountsOnce n sum j) (accountKind : ℕ) (row : List ℤ) (r : RowRanges row)
+    (holdings holdings′ : ℕ → List ℤ) (others : (k : ℕ) → k < n → k ≢ j → holdings′ k ≡ holdings k)
+    (same : (k : ℕ) → k ≢ 0 → number (holdings′ j) k ≡ number (holdings j) k) where
   abbrev xs : ℕ → Asset
   xs k = assetOf accountKind row (holdings k)
 

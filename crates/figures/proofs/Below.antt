@@ -25,7 +25,7 @@ use Rattle.book.specs.declared.members.Members.{Members}
 use Rattle.assets.specs.declared.parts.Part.{Part}
 use Rattle.assets.proofs.Sizes.{SmallPart, asset-ranges, part-small}
 use Rattle.figures.specs.Limit.{inGroup, byGroup, totalsOf, discountOf, discount, singleLimit, figuresOf, rublesOf, partIn, blockFigures}
-use Rattle.figures.specs.Joint.{jointFigures}
+use Rattle.figures.specs.Joint.{jointFigures, memberFigures}
 use Rattle.figures.specs.Ranges.{PercentRanges, Below2^53, RiskBounds}
 use Rattle.figures.proofs.limit.Discount.{percent-ranges, discount-from-zero, discount-below}
 use Rattle.figures.proofs.Groups.{in-group-from-zero, one-group, side-at}
@@ -97,7 +97,7 @@ module _ (n : ℕ) (parts : ℕ → Part) (small : (a : ℕ) → a < 16 → Smal
 
 -- ---- of members that can be valued
 pub member-bounds : (book : List ℤ) (m : Members) (tables : Tables) → MemberRanges book m → TableRanges tables
-    → RiskBounds (jointFigures (overMembers m) (m .kind) (blockOf book) tables)
+    → RiskBounds (memberFigures m book tables)
 unfolding jointFigures
 member-bounds book m tables p t =
     risk-bounds (m .count) _ (λ a l. member-part-small book m tables p t a l) (tables .groups) (percent-ranges t)

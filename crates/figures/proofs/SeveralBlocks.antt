@@ -28,7 +28,7 @@ use Rattle.assets.proofs.Sizes.{SmallPart, asset-ranges, part-small, small-rang
 use Rattle.assets.proofs.Unheld.{NoPart, unheld-asset, unheld-part}
 use Rattle.assets.proofs.Joint.{joint-alone, record-ranges, record-none}
 use Rattle.figures.specs.Limit.{totalsOf, figuresOf, rublesOf, partIn, blockFigures}
-use Rattle.figures.specs.Joint.{jointPart, jointFigures}
+use Rattle.figures.specs.Joint.{jointPart, jointFigures, memberPart, memberFigures}
 use Rattle.figures.specs.Laws.{AloneFigures, FiguresAlike}
 
 -- the same sums, the same figures
@@ -55,7 +55,7 @@ alone-figures on i l alone blocks tables =
 
 -- as code lists it
 pub one-member : (book : List ℤ) (i : ℕ) (tables : Tables)
-    → jointFigures (overMembers (aloneAt book i)) (kindAt book i) (blockOf book) tables ≡ blockFigures (blockOf book i) tables
+    → memberFigures (aloneAt book i) book tables ≡ blockFigures (blockOf book i) tables
 one-member book i tables =
     figures-by (overMembers (aloneAt book i)) (λ f. f i) (over-alone book i) (kindAt book i) (blockOf book) tables ∙ block-alone i (blockOf book) tables
 
@@ -86,15 +86,15 @@ module _ (book : List ℤ) (m : Members) (tables : Tables) (p : MemberRanges boo
       record-ranges (memberAt m) (regimeOf (m .kind) row) (λ j. assetOf (m .kind) row (holdingOf (blockOf book j) a)) (m .count) (p .few)
       (λ k q. asset-ranges (m .kind) row (t .row a l) _ (p .block k q .holding a l))
 
-  pub member-part-small : SmallPart (m .count) (jointPart (overMembers m) (m .kind) (blockOf book) tables a)
+  pub member-part-small : SmallPart (m .count) (memberPart m book tables a)
   unfolding jointPart
   member-part-small = part-small (m .count) (p .few) _ (t .row a l) _ member-asset-range
 
-  pub member-part-range : PartRanges (jointPart (overMembers m) (m .kind) (blockOf book) tables a)
+  pub member-part-range : PartRanges (memberPart m book tables a)
   member-part-range = small-ranges (m .count) (p .few) member-part-small
 
   pub member-part-none : ((k : ℕ) → k < m .count → allZero (holdingOf (blockOf book (memberAt m k)) a) ≡ true)
-      → NoPart (jointPart (overMembers m) (m .kind) (blockOf book) tables a)
+      → NoPart (memberPart m book tables a)
   unfolding jointPart
   member-part-none empty =
       let row = inForce (tables .clearing) (tables .own) a in

@@ -10,7 +10,9 @@ use Rattle.whole.specs.Sums.{Σ<on}
 use Rattle.rates.specs.Units.{assets}
 use Rattle.rates.specs.Lent.{Tables}
 use Rattle.rates.specs.InForce.{inForce}
-use Rattle.book.specs.Block.{accounts, holdingOf}
+use Rattle.book.specs.Block.{accounts, blockOf, holdingOf}
+use Rattle.book.specs.Members.{overMembers}
+use Rattle.book.specs.declared.members.Members.{Members}
 use Rattle.assets.specs.Joint.{jointOf}
 use Rattle.assets.specs.Part.{partOf}
 use Rattle.assets.specs.declared.parts.Part.{Part}
@@ -29,3 +31,11 @@ module _ (sum : (ℕ → ℤ) → ℤ) (accountKind : ℕ) (blocks : ℕ → Lis
 -- of those accounts that pass a test: the figures of a settlement code are those of the accounts on it
 abbrev pub figuresOn : (ℕ → Bool) → ℕ → (ℕ → List ℤ) → Tables → Figures
 figuresOn on = jointFigures (Σ<on accounts on)
+
+-- of the members of a list, as code has them
+module _ (members : Members) (book : List ℤ) (tables : Tables) where
+  abbrev pub memberPart : ℕ → Part
+  memberPart = jointPart (overMembers members) (members .kind) (blockOf book) tables
+
+  abbrev pub memberFigures : Figures
+  memberFigures = jointFigures (overMembers members) (members .kind) (blockOf book) tables

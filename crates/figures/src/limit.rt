@@ -8,7 +8,7 @@ ghost use Rattle.book.specs.Block.{blockOf};
 ghost use Rattle.book.specs.Ranges.{BlockRanges};
 ghost use Rattle.book.specs.Members.{overMembers, MemberRanges};
 ghost use Rattle.figures.specs.Limit.{discountOf, figuresOf, rublesOf};
-ghost use Rattle.figures.specs.Joint.{jointFigures};
+ghost use Rattle.figures.specs.Joint.{memberFigures};
 ghost use Rattle.figures.specs.Ranges.{GroupRanges, PercentRanges, TotalRanges};
 use crate::sums;
 use crate::sums::Totals;
@@ -116,7 +116,7 @@ pub fn joint_figures<'a>(
     groups: &[i64],
 ) -> Figures
     requires { ⌜ MemberRanges (now book) members × TableRanges (lent clearing own groups) ⌝ }
-    ensures { λ r. ⌜ r ≡ jointFigures (overMembers members) (members .kind) (blockOf (now (book .entry))) (given clearing own groups) ⌝ }
+    ensures { λ r. ⌜ r ≡ memberFigures members (now (book .entry)) (given clearing own groups) ⌝ }
 {
     let totals = sums::totals_of(book, members, clearing, own, groups);
     let rubles = joint_rubles(book, members);

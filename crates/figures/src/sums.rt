@@ -3,12 +3,11 @@ ghost use Prim.Native.Nat.{_<_};
 ghost use Rattle.whole.specs.Bounds.{_upto_};
 ghost use Rattle.rates.specs.Lent.{lent, given};
 ghost use Rattle.rates.specs.Ranges.{TableRanges};
-ghost use Rattle.book.specs.Block.{blockOf};
 ghost use Rattle.book.specs.Changes.{added};
-ghost use Rattle.book.specs.Members.{overMembers, MemberRanges};
+ghost use Rattle.book.specs.Members.{MemberRanges};
 ghost use Rattle.assets.specs.Ranges.{PartRanges};
 ghost use Rattle.figures.specs.Limit.{totalsOf, withPart};
-ghost use Rattle.figures.specs.Joint.{jointPart};
+ghost use Rattle.figures.specs.Joint.{memberPart};
 ghost use Rattle.figures.specs.Ranges.{GroupRanges, TotalRanges};
 use crate::joint;
 use assets::Part;
@@ -66,7 +65,7 @@ fn with_asset<'a>(
     a: usize,
 ) -> Totals
     requires { ⌜ TotalRanges 15 totals × MemberRanges (now book) members × TableRanges (lent clearing own groups) × (a < 16) ⌝ }
-    ensures { λ r. ⌜ r ≡ withPart totals (jointPart (overMembers members) (members .kind) (blockOf (now (book .entry))) (given clearing own groups) a) ⌝ }
+    ensures { λ r. ⌜ r ≡ withPart totals (memberPart members (now (book .entry)) (given clearing own groups) a) ⌝ }
 {
     if joint::none_holds(book, members, a) {
         return totals;
@@ -86,7 +85,7 @@ pub(crate) fn totals_of<'a>(
     groups: &[i64],
 ) -> Totals
     requires { ⌜ MemberRanges (now book) members × TableRanges (lent clearing own groups) ⌝ }
-    ensures { λ r. ⌜ r ≡ totalsOf (jointPart (overMembers members) (members .kind) (blockOf (now (book .entry))) (given clearing own groups)) 16 ⌝ }
+    ensures { λ r. ⌜ r ≡ totalsOf (memberPart members (now (book .entry)) (given clearing own groups)) 16 ⌝ }
 {
     let mut totals = Totals {
         valuation: 0,

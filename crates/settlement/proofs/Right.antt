@@ -7,16 +7,19 @@ use Prim.Native.Nat.{ℕ, _<_}
 use lib.Dec.{leb}
 use lib.IntN.{ℤ}
 use borrow.Author.Tests.{leb-true}
+use Rattle.whole.specs.Bounds.{_upto_}
 use Rattle.whole.proofs.Bounds.{equal-says, equal-yes}
 use Rattle.whole.proofs.Tests.{both, and-left, and-right}
 use Rattle.book.specs.Block.{blockOf, accountKind}
 use Rattle.book.specs.Rules.{goodBlock, holdsListed}
+use Rattle.book.specs.AtAccount.{InBook}
 use Rattle.book.proofs.Blocks.{block-length}
 use Rattle.book.proofs.Good.{block-ranges}
 use Rattle.settlement.specs.Code.{onCode, countOn, everyOn, memberRight, codeRight, codeHoldsListed}
+use Rattle.settlement.specs.Members.{CodeRanges}
 use Rattle.settlement.specs.Laws.{RightInRange, MateRight, MateHoldsListed, MemberGood, MemberKind}
 use Rattle.settlement.proofs.Codes.{count-same, each-at, each-by, each-same}
-use Rattle.settlement.proofs.Mates.{mates-on}
+use Rattle.settlement.proofs.Mates.{on-itself, mates-on}
 
 -- ---- what a right code is made of
 module _ (book : List ℤ) (i : ℕ) (right : codeRight book i ≡ true) where
@@ -67,3 +70,8 @@ unfolding codeHoldsListed
 mate-holds-listed book i j on clearing =
     each-same (onCode book i) (onCode book j) (λ k. holdsListed (blockOf book k) clearing) (λ k. holdsListed (blockOf book k) clearing)
     (λ k q. mates-on book i j on k) (λ k q o. refl)
+
+-- ---- of a code in range: the account is on it itself, so that its own list can be made
+pub own-in-range : (book : List ℤ) (i : ℕ) → CodeRanges book i → InBook book i × (accountKind (blockOf book i) upto 3)
+own-in-range book i ranges =
+    (record { long = ranges .long; below = ranges .below }, ranges .block i (ranges .below) (on-itself book i) .kind-upto)

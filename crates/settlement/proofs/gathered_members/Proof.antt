@@ -11,7 +11,7 @@ use Rattle.book.specs.declared.members.Members.{Members}
 use Rattle.settlement.specs.Code.{onCode}
 use Rattle.settlement.specs.Members.{listOf}
 use Rattle.settlement.proofs.Codes.{room-before}
-use Rattle.settlement.proofs.Mates.{on-itself}
+use Rattle.settlement.proofs.Right.{own-in-range}
 use Rattle.settlement.proofs.Listing.{list-count, list-turn}
 use Rattle.settlement.proofs.gathered_members.Statement.{statement}
 use Rattle.settlement.proofs.gathered_members.Tie as tie
@@ -22,10 +22,8 @@ Inv-loop book i kind members₀ j₀ members j = (j ≤ 16) × (members ≡ list
 abbrev μ-loop : tie.MeasureT-loop
 μ-loop book i kind members₀ j₀ members j = 16 - j
 
--- the account is on its own code, so its kind is from 0 up
 alone-requires : tie.Need-alone-requires Inv-loop μ-loop
-alone-requires c κs =
-    (record { long = c .pre .long; below = c .pre .below }, c .pre .block (c .args .i) (c .pre .below) (on-itself (now (c .args .book)) (c .args .i)) .kind-upto)
+alone-requires c κs = own-in-range _ _ (c .pre)
 
 loop-holds : tie.Need-loop-holds Inv-loop μ-loop
 unfolding listOf
@@ -39,7 +37,7 @@ with-member-requires c κs =
     let s = c .before .before .before in
     let l = c .before .loop in
     let on = onCode (now (s .args .book)) (s .args .i) in (
-      record { long = s .pre .long; below = s .pre .below },
+      own-in-range _ _ (s .pre) .0,
       omega arith,
       λ here.
           let counted = ap (λ (m : Members). m .count) (l .inv .1) ∙ list-count on (kindAt (now (s .args .book)) (s .args .i)) (l .j) in

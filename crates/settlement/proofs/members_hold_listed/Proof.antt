@@ -33,14 +33,16 @@ loop-again : tie.Need-loop-again Inv-loop μ-loop
 loop-again c =
     let l = c .before .before .before .loop in
     let a = c .before .before .before .before .args in
-    (omega arith, every-next (asked (now (a .book)) (a .i) (now (a .clearing))) (l .j) (l .inv .1) (left (c .before .holds-listed-where-on .ensures) (c .if1 .left)))
+    let listed = left (c .before .holds-listed-where-on .ensures) (c .if1 .left) in
+    (omega arith, every-next (asked (now (a .book)) (a .i) (now (a .clearing))) (l .j) (l .inv .1) listed)
 
 returns : tie.Need-returns Inv-loop μ-loop
 unfolding codeHoldsListed everyOn
 returns c =
     let l = c .before .before .before .loop in
     let a = c .before .before .before .before .args in
-    sym (every-out (asked (now (a .book)) (a .i) (now (a .clearing))) 16 (l .j) (omega arith) (taken (c .before .holds-listed-where-on .ensures) (c .if1 .taken)))
+    let unlisted = taken (c .before .holds-listed-where-on .ensures) (c .if1 .taken) in
+    sym (every-out (asked (now (a .book)) (a .i) (now (a .clearing))) 16 (l .j) (omega arith) unlisted)
 
 returns-2 : tie.Need-returns-2 Inv-loop μ-loop
 unfolding codeHoldsListed everyOn

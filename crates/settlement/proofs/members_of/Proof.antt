@@ -3,16 +3,13 @@ use mathlib.Core.Path.{sym, _∙_}
 use borrow.Author.Needs.{needs}
 use denote.Ref.{now}
 use Rattle.whole.proofs.Tests.{passed}
-use Rattle.settlement.proofs.Mates.{on-itself}
+use Rattle.settlement.proofs.Right.{own-in-range}
 use Rattle.settlement.proofs.Alone.{alone-in-list}
 use Rattle.settlement.proofs.members_of.Statement.{statement}
 use Rattle.settlement.proofs.members_of.Tie as tie
 
 alone-requires : tie.Need-alone-requires
-alone-requires c κs =
-    let s = c .before .before in
-    let own = s .pre .block (s .args .i) (s .pre .below) (on-itself (now (s .args .book)) (s .args .i)) in
-    (record { long = s .pre .long; below = s .pre .below }, own .kind-upto)
+alone-requires c κs = own-in-range _ _ (c .before .before .pre)
 
 returns : tie.Need-returns
 returns c =

@@ -5,12 +5,12 @@ use denote.Ref.{now}
 use Rattle.rates.specs.Lent.{lent}
 use Rattle.book.specs.Block.{blockOf}
 use Rattle.book.specs.Ranges.{BlockRanges}
-use Rattle.book.specs.Members.{overMembers, MemberRanges}
+use Rattle.book.specs.Members.{MemberRanges}
 use Rattle.book.specs.declared.members.Members.{Members}
 use Rattle.book.proofs.Good.{block-ranges}
 use Rattle.book.proofs.AtAccount.{block-long}
 use Rattle.book.proofs.OneMember.{alone-ranges}
-use Rattle.figures.specs.Joint.{jointFigures}
+use Rattle.figures.specs.Joint.{memberFigures}
 use Rattle.figures.proofs.SeveralBlocks.{one-member}
 use Rattle.engine.proofs.gate.figures_at.Statement.{statement}
 use Rattle.engine.proofs.gate.figures_at.Tie as tie
@@ -31,7 +31,7 @@ returns c =
     let a = c .before .before .args in
     let tables = lent (a .clearing) (a .own) (a .groups) in
     c .joint-figures .ensures
-    ∙ ap (λ (m : Members). jointFigures (overMembers m) (m .kind) (blockOf (now (a .book))) tables) (c .before .alone .ensures)
+    ∙ ap (λ (m : Members). memberFigures m (now (a .book)) tables) (c .before .alone .ensures)
     ∙ one-member (now (a .book)) (a .i) tables
 
 pub figures-at-spec : {M : Type 1} → statement M

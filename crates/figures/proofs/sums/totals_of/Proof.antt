@@ -7,12 +7,10 @@ use denote.Ref.{now}
 use Rattle.whole.specs.Sums.{Σ<}
 use Rattle.whole.specs.Parts.{tabulated}
 use Rattle.rates.specs.Lent.{Tables, lent}
-use Rattle.book.specs.Block.{blockOf}
-use Rattle.book.specs.Members.{overMembers}
 use Rattle.assets.specs.Ranges.{PartRanges}
 use Rattle.assets.specs.declared.parts.Part.{Part}
 use Rattle.figures.specs.Limit.{byGroup, totalsOf}
-use Rattle.figures.specs.Joint.{jointPart}
+use Rattle.figures.specs.Joint.{memberPart}
 use Rattle.figures.specs.Ranges.{TotalRanges}
 use Rattle.figures.proofs.sums.Steps.{totals-turn, totals-range, ranges-wider}
 use Rattle.figures.proofs.SeveralBlocks.{member-part-range}
@@ -22,7 +20,7 @@ use Rattle.figures.proofs.sums.totals_of.Tie as tie
 abbrev Inv-loop : tie.InvT-loop
 Inv-loop book members clearing own groups totals₀ a₀ totals a =
     let tables : Tables = record { clearing = clearing; own = own; groups = groups } in
-    (a ≤ 16) × (totals ≡ totalsOf (jointPart (overMembers members) (members .kind) (blockOf book) tables) a)
+    (a ≤ 16) × (totals ≡ totalsOf (memberPart members book tables) a)
 
 abbrev μ-loop : tie.MeasureT-loop
 μ-loop book members clearing own groups totals₀ a₀ totals a = 16 - a
@@ -31,7 +29,7 @@ abbrev μ-loop : tie.MeasureT-loop
 abbrev parts : tie.Start Inv-loop μ-loop → ℕ → Part
 parts s =
     let a = s .args in
-    jointPart (overMembers (a .members)) (a .members .kind) (blockOf (now (a .book))) (lent (a .clearing) (a .own) (a .groups))
+    memberPart (a .members) (now (a .book)) (lent (a .clearing) (a .own) (a .groups))
 
 part-range : (s : tie.Start Inv-loop μ-loop) (a : ℕ) → a < 16 → PartRanges (parts s a)
 part-range s a l = member-part-range _ _ _ (s .pre .0) (s .pre .1) a l
