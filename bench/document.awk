@@ -1,6 +1,6 @@
 # Makes docs/BENCHMARKS.md of what bench-calls printed with overflow checks on and off, and of the session programs. The environment has
 # the rest. Lines: speed NAME LISTED ENGINE SECOND RATIO LEAST GREATEST; cost NAME LISTED then ratio, least, greatest of both sides; own NAME
-# ROWS ENGINE SECOND RATIO LEAST GREATEST then ratio, least, greatest of both sides to no own rows.
+# ROWS ENGINE SECOND RATIO LEAST GREATEST then ratio, least, greatest of both sides to no own rows; code NAME BLOCKS, as own, to one block.
 BEGIN { FS = "\t"; most = 1.2; first_ground = "order admitted" }
 
 FNR == 1 { file++ }
@@ -36,6 +36,17 @@ $1 == "own" {
     }
     own_ratio[key, file] = spread($6, $7, $8)
     if ($6 < 1) short[file] = short[file] "; " $2 " with " $3 " own rows (" $6 ")"
+}
+
+$1 == "code" {
+    key = $2 SUBSEP $3
+    if (file == 1) {
+        code_keys[++codes] = key
+        code_times[key] = "| " $2 " | " $3 " | " micro($4) " | " micro($5)
+        code_costs[key] = spread($9, $10, $11) " | " spread($12, $13, $14)
+    }
+    code_ratio[key, file] = spread($6, $7, $8)
+    if ($6 < 1) short[file] = short[file] "; " $2 " with " $3 ($3 == 1 ? " block" : " blocks") " on the code (" $6 ")"
 }
 
 function spread(middle, least, greatest) { return middle " (" least " to " greatest ")" }
@@ -104,6 +115,17 @@ function own_rows(    n, key) {
     }
 }
 
+function shared_codes(    n, key) {
+    print "\n## What settlement codes cost\n"
+    print "With 16 assets listed and held in each block, and one, two and four blocks on the account's code: microseconds a call, engine ÷ second, and each side against the same call of a code of one block. A report of a code looks at all its blocks.\n"
+    print "| call | blocks | engine | second | engine ÷ second | without overflow checks | engine, to one | second, to one |"
+    print "|---|---|---|---|---|---|---|---|"
+    for (n = 1; n <= codes; n++) {
+        key = code_keys[n]
+        print code_times[key] " | " code_ratio[key, 1] " | " code_ratio[key, 2] " | " code_costs[key] " |"
+    }
+}
+
 function verdict() {
     print "\n## Against the goal\n"
     print "The goal: nowhere slower than the second program, and an order that passes on the first ground at most " most " reports.\n"
@@ -116,10 +138,10 @@ function method() {
     print "\n## How it is measured\n"
     print "- Codes, figures and books of both are compared for every call of the input before a clock is started, and counted while it runs."
     print "- 15 rounds. In each, every call of both programs runs for at least 20 ms, and who goes first changes from round to round."
-    print "- The input (bench/src/input.rs): 16 open accounts of kinds 1 to 3, taken in turn; each listed asset held with collateral and with claims and obligations on every date. Rows of kinds 1 to 3, special delivery, not recorded and partial ones, four spread groups and none. A third of them have an own row, stricter in shares that are not 0, rates, concentration limits, lows and ups, where nothing else is said. The first 1 and 4 assets have no special delivery among them, and the first has no own row."
+    print "- The input (bench/src/input.rs): 16 open accounts of kinds 1 to 3, taken in turn; each listed asset held with collateral and with claims and obligations on every date. Rows of kinds 1 to 3, special delivery, not recorded and partial ones, four spread groups and none. A third of them have an own row, stricter in shares that are not 0, rates, concentration limits, lows and ups, where nothing else is said. The first 1 and 4 assets have no special delivery among them, and the first has no own row. Where settlement codes are measured the blocks of one are of one kind, and have together the rubles that one has alone elsewhere."
     print "- Order admitted: the limits before and after are zero or more. Order refused: the limit before is, the limit after is negative. In trouble the same accounts owe rubles, so that each limit is negative before the order: a refused one buys for more than its units are worth or sells for nothing; an admitted one sells for more than they are worth, and the limit is still negative after it."
     print "- An admitted order is taken back by putting its two numbers of the book back, for both programs alike and inside the time. A refused one leaves the book as it is."
     print "- Session lines: the session program and `second-session` on one generated file of " grouped(ENVIRON["LINES"]) " lines, output thrown away; starting the programs is counted."
 }
 
-END { origin(); speeds(); growth(); prices(); own_rows(); verdict(); method() }
+END { origin(); speeds(); growth(); prices(); own_rows(); shared_codes(); verdict(); method() }

@@ -25,7 +25,7 @@ extern "C" {
 #endif
 
 /* The version of this face: the first number changes where a program must, the second where an answer does or a call is added. */
-#define SINGLE_LIMIT_VERSION "2.0.0"
+#define SINGLE_LIMIT_VERSION "3.0.0"
 
 /* Accounts 0 to 15, assets 0 to 15, dates 0 to 7 (date 0 is T0), groups 1 to 8. */
 #define SINGLE_LIMIT_ACCOUNTS 16
@@ -122,24 +122,36 @@ extern "C" {
  *   0                 kind: 0 not open, 1 ordinary, 2 pool, 3 pool of the list       0 to 3
  *   1                 ruble collateral                                               10^14 either way
  *   2 + d             ruble net of trades of date d                                  10^14 either way
- *   10 to 15          spare                                                          zero
+ *   10 to 12, 14, 15  spare                                                          zero
+ *   13                settlement code: 0 none, else shared                           0 to 15
  *   16 + 17a          collateral of asset a                                          10^6 either way
  *   16 + 17a + 1 + d  claim of asset a at date d                                     0 to 10^6
- *   16 + 17a + 9 + d  obligation of asset a at date d                                0 to 10^6 */
+ *   16 + 17a + 9 + d  obligation of asset a at date d                                0 to 10^6
+ *
+ * A settlement code is given when an account is opened, and no call changes it. Code 0 is none. Codes 1 to 15 are each shared by at most four open
+ * accounts of one kind, which are valued together (clause 4.11): collateral is adjusted and valued within each block and then added, positions are
+ * added by date before market and interest risk are taken. Every account of a code reports the code's figures, and its orders and withdrawals are
+ * judged by the code's limit; every call writes the account's own block alone.
+ *
+ * On a code are the blocks whose number 13 has it, open or not. Where one of them breaks the rules above or is of another kind, or there are more
+ * than four, every call but open answers 6 for every account of the code; so does every call that is lent tables where one of them has a holding in
+ * an unlisted asset. */
 #define SINGLE_LIMIT_BLOCK_KIND 0
 #define SINGLE_LIMIT_BLOCK_RUBLE_COLLATERAL 1
 #define SINGLE_LIMIT_BLOCK_RUBLE_NETS 2
 #define SINGLE_LIMIT_BLOCK_SPARE 10
+#define SINGLE_LIMIT_BLOCK_SETTLEMENT_CODE 13
 #define SINGLE_LIMIT_BLOCK_HOLDINGS 16
 #define SINGLE_LIMIT_HOLDING_COLLATERAL 0
 #define SINGLE_LIMIT_HOLDING_CLAIMS 1
 #define SINGLE_LIMIT_HOLDING_OBLIGATIONS 9
 
-/* Kinds of an account, the asset that stands for rubles in a move, and sides of an order. */
+/* Kinds of an account, the last settlement code, the asset that stands for rubles in a move, and sides of an order. */
 #define SINGLE_LIMIT_ACCOUNT_NOT_OPEN 0
 #define SINGLE_LIMIT_ACCOUNT_ORDINARY 1
 #define SINGLE_LIMIT_ACCOUNT_POOL 2
 #define SINGLE_LIMIT_ACCOUNT_POOL_OF_THE_LIST 3
+#define SINGLE_LIMIT_LAST_SETTLEMENT_CODE 15
 #define SINGLE_LIMIT_RUBLES 255
 #define SINGLE_LIMIT_BUY 0
 #define SINGLE_LIMIT_SELL 1
@@ -182,14 +194,17 @@ static inline const char *single_limit_words(uint8_t code) {
     case SINGLE_LIMIT_REFUSED_NOT_OPEN: return "account not open";
     case SINGLE_LIMIT_REFUSED_ALREADY_OPEN: return "open on an open account";
     case SINGLE_LIMIT_REFUSED_BROKEN_BLOCK:
-        return "block breaks the block rules; where tables are lent, also a nonzero holding in an unlisted asset";
+        return "block, or another on its settlement code, breaks the block rules; two kinds or more than four blocks on that code; "
+               "where tables are lent, also a nonzero holding of one of them in an unlisted asset";
     case SINGLE_LIMIT_REFUSED_WRONG_CHOICE:
         return "asset unlisted or not 0 to 15 (a move also takes 255, rubles), date not 0 to 7, side not 0 or 1, "
-               "account kind to open not 1 to 3";
+               "account kind to open not 1 to 3, settlement code to open on not 0 to 15, or with four blocks on it already, "
+               "or with one on it of another kind or a broken one";
     case SINGLE_LIMIT_REFUSED_WRONG_AMOUNT:
         return "quantity not 1 to 10^6; order money not 0 to 10^14; move 0, or beyond 10^6 either way (10^14 for rubles)";
     case SINGLE_LIMIT_REFUSED_OUT_OF_BOUNDS:
-        return "a number would leave its bounds, or a withdrawal would leave collateral below 0; a NaN's pattern read back";
+        return "a number would leave its bounds, or a withdrawal would leave collateral below 0; "
+               "a figure for the app of 2^53 or more in size; a NaN's pattern read back";
     case SINGLE_LIMIT_REFUSED_NEGATIVE_LIMIT:
         return "limit after a withdrawal would be negative, or after an order negative and not raised by it";
     case SINGLE_LIMIT_REFUSED_LAXER_OWN_ROW: return "the table check finds an own row that is laxer than its clearing row";
@@ -235,8 +250,9 @@ uint8_t single_limit_check_tables(const int64_t *clearing, size_t clearing_lengt
  * code is answered. */
 uint8_t single_limit_covers(const int64_t *clearing, size_t clearing_length, const int64_t *own, size_t own_length, int64_t asset);
 
-/* Open an account: kind 1 ordinary, 2 pool, 3 pool of the list. */
-uint8_t single_limit_open(int64_t *book, size_t book_length, int64_t account, int64_t kind);
+/* Open an account: kind 1 ordinary, 2 pool, 3 pool of the list; code is its settlement code, 1 to 15, or 0 for none. Code 7 is answered where kind
+ * or settlement code is none of these, and where four blocks are on that settlement code already, or one of another kind, or a broken one. */
+uint8_t single_limit_open(int64_t *book, size_t book_length, int64_t account, int64_t kind, int64_t code);
 
 /* Move collateral of an asset, or of rubles (255): a positive amount deposits, a negative one withdraws. */
 uint8_t single_limit_move(int64_t *book, size_t book_length, const int64_t *clearing, size_t clearing_length, const int64_t *own,
@@ -252,16 +268,17 @@ uint8_t single_limit_order(int64_t *book, size_t book_length, const int64_t *cle
 /* Roll an account to the next day: collateral gains date 0's net, dates 1 to 7 become 0 to 6, date 7 empties. All or nothing. */
 uint8_t single_limit_roll(int64_t *book, size_t book_length, int64_t account);
 
-/* Report an account: figures takes five numbers, valuation, market risk, interest risk, discount, limit; zeros where the code is not 0. Another
- * length of it is code 1, and nothing is written. */
+/* Report an account, or all on its settlement code: figures takes five numbers, valuation, market risk, interest risk, discount, limit; zeros where
+ * the answer is not 0. Another length of it is code 1, and nothing is written. */
 uint8_t single_limit_report(const int64_t *book, size_t book_length, const int64_t *clearing, size_t clearing_length, const int64_t *own,
                             size_t own_length, const int64_t *groups, size_t groups_length, int64_t account, int64_t *figures,
                             size_t figures_length);
 
 /* Feed the app with an account's report: bits takes five numbers, the bits of the figures as floats in kopecks, in report order; each float is
  * exactly the whole number, and a zero is +0.0. They are what goes to the app. *gauge is one of SINGLE_LIMIT_GAUGE_..., *shown its float: where
- * used, (market risk + interest risk - discount) / valuation, one division rounded once. Codes are the report's. Where the code is not 0 the gauge
- * is empty, *shown is +0.0 and bits stay as they were. Another length of bits is code 1, before all else. */
+ * used, (market risk + interest risk - discount) / valuation, one division rounded once. Codes are the report's, then 9 where a figure is 2^53 or
+ * more in size, so that its float could be another number: only several accounts on one settlement code come so far, and they still report. Where
+ * the code is not 0 the gauge is empty, *shown is +0.0 and bits stay as they were. Another length of bits is code 1, before all else. */
 uint8_t single_limit_app(const int64_t *book, size_t book_length, const int64_t *clearing, size_t clearing_length, const int64_t *own,
                          size_t own_length, const int64_t *groups, size_t groups_length, int64_t account, uint64_t *bits,
                          size_t bits_length, uint8_t *gauge, double *shown);

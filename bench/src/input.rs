@@ -1,9 +1,10 @@
 //! The tables, books and orders that both programs get. Every listed asset has another row and every account another block, so
 //! that no branch goes the same way for long: kinds 1 to 3, own rows over none, a third or all of the assets, special delivery,
 //! not recorded, partial, shares of 0 and of the whole, several spread groups, positions of either sign, above and below the
-//! concentration limits. In trouble the accounts hold the same assets and owe rubles.
+//! concentration limits. In trouble the accounts hold the same assets and owe rubles. Where they share settlement codes, those of a
+//! code are of one kind and have together the rubles that one has alone.
 
-use second::block::{CLAIMS, COLLATERAL, NETS, OBLIGATIONS, RUBLES, holding_start};
+use second::block::{CLAIMS, CODE, COLLATERAL, KIND, LISTED_POOL, NETS, OBLIGATIONS, RUBLES, holding_start};
 use second::calls::{BUY, Order, SELL};
 use second::row::{self, date_start};
 use second::tables::Lent;
@@ -74,8 +75,21 @@ pub struct Orders {
 impl Input {
     /// With the first `listed` assets listed, and each of them held in every account.
     pub fn new(listed: usize, owned: Owned) -> Input {
-        let healthy = book(listed, RUBLES_HELD);
-        let troubled = book(listed, RUBLES_OWED);
+        Input::of_books(listed, owned, |rubles| book(listed, rubles))
+    }
+
+    /// The same, but so many accounts share a settlement code.
+    pub fn on_codes(listed: usize, owned: Owned, blocks: usize) -> Input {
+        Input::of_books(listed, owned, |rubles| {
+            let mut book = book(listed, rubles / blocks as i64);
+            share_codes(&mut book, blocks);
+            book
+        })
+    }
+
+    fn of_books(listed: usize, owned: Owned, book: impl Fn(i64) -> Vec<i64>) -> Input {
+        let healthy = book(RUBLES_HELD);
+        let troubled = book(RUBLES_OWED);
         Input {
             tables: Tables::new(listed, owned),
             admitted: Orders::new(&healthy, 0, |number| order(number, listed, FEW_UNITS, MONEY)),
@@ -167,9 +181,18 @@ fn book(listed: usize, rubles: i64) -> Vec<i64> {
     book
 }
 
+/// Of sixteen codes of one block each the last would be 16, and is none.
+fn share_codes(book: &mut [i64], blocks: usize) {
+    for (account, block) in book.chunks_exact_mut(BLOCK).enumerate() {
+        let code = (1 + account / blocks) as i64 % (MOST_CODE + 1);
+        block[CODE] = code;
+        block[KIND] = 1 + code % LISTED_POOL;
+    }
+}
+
 /// An open account that holds something of each listed asset on each date.
 fn write_block(block: &mut [i64], account: i64, listed: usize, rubles: i64) {
-    block[0] = 1 + account % 3;
+    block[KIND] = 1 + account % LISTED_POOL;
     block[RUBLES] = rubles + 1_000 * account;
     for date in NETS {
         block[date] = 250_000 * (date as i64 - 5) + account;

@@ -1,13 +1,14 @@
 //! Before anything is timed: both programs must answer every call of the input with the same code, the same figures and the
 //! same book afterwards, and with the code that the input was made for; and the limits must be those that it was made for.
 
+use second::block::CODE;
 use second::calls::{self, Order, code};
-use second::limit::Figures;
+use second::code::NONE;
 use second::row::{OUTER_UP, date_start};
 use second::tables::{Lent, own_place};
-use second::units::{ACCOUNTS, DATES, ROW, TABLE};
+use second::units::{ACCOUNTS, BLOCK, DATES, ROW, TABLE};
 
-use crate::engine::{self, Five};
+use crate::engine;
 use crate::input::{Input, Orders, Tables};
 
 /// Stops the program where they differ.
@@ -23,6 +24,7 @@ pub fn check(input: &Input) {
     check_orders(tables, trouble_refused, |before, _| before < 0);
     check_orders(tables, trouble_admitted, |before, after| before < after && after < 0);
     check_broken(tables);
+    check_codes(tables, book);
     if let Some(last) = tables.own.iter().rposition(|&number| number != 0) {
         check_in_force(tables, book);
         check_laxer(tables, last / ROW);
@@ -32,13 +34,8 @@ pub fn check(input: &Input) {
 /// An account's limit, by both programs' reports.
 fn limit(tables: &Tables, book: &[i64], account: i64) -> i64 {
     let figures = calls::report(book, &tables.lent(), account).expect("the second program reports");
-    assert_eq!(engine::report(book, &tables.lent(), account), (0, five(figures)), "report of account {account}");
+    assert_eq!(engine::report(book, &tables.lent(), account), (0, figures.five()), "report of account {account}");
     figures.limit()
-}
-
-fn five(figures: Figures) -> Five {
-    let Figures { valuation, market_risk, interest_risk, discount } = figures;
-    [valuation, market_risk, interest_risk, discount, figures.limit()]
 }
 
 /// `made_for` is asked of the limits of the books before and after; a refused order leaves the same book.
@@ -70,6 +67,18 @@ fn check_broken(tables: &Tables) {
     let lent = Lent { groups: &groups, ..tables.lent() };
     assert_eq!(engine::check_tables(&lent), (2, 2055), "the engine's place");
     assert_eq!(calls::check_tables(&lent), (2, 2055), "the second program's place");
+}
+
+/// Where an account shares its settlement code, its report is of the code: without the code its figures are others.
+fn check_codes(tables: &Tables, book: &[i64]) {
+    for account in 0..ACCOUNTS {
+        let code = book[BLOCK * account + CODE];
+        let on_code = (0..ACCOUNTS).filter(|other| book[BLOCK * other + CODE] == code).count();
+        let mut alone = book.to_vec();
+        alone[BLOCK * account + CODE] = NONE;
+        let [with, without] = [book, &alone].map(|book| calls::report(book, &tables.lent(), account as i64));
+        assert_eq!(with != without, code != NONE && on_code > 1, "the code of account {account}");
+    }
 }
 
 /// Without own rows every account's figures are others.

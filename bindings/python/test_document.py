@@ -1,4 +1,5 @@
-"""Document 01's session, its sums S1 to S12, the orders at the edge, the cover test and refusals. SINGLE_LIMIT_LIBRARY names the library."""
+"""Document 01's session, its sums S1 to S12, the orders at the edge, the cover test, settlement codes and refusals. SINGLE_LIMIT_LIBRARY names the
+library."""
 
 import contextlib
 import io
@@ -38,7 +39,7 @@ def start(kind=ACCOUNT_ORDINARY):
     book, tables = Book(), Tables()
     tables.clearing[:ROW_LENGTH] = ROW_A
     tables.groups[0] = 25
-    book.open(0, kind)
+    book.open(0, kind, 0)
     return book, tables
 
 
@@ -51,7 +52,7 @@ class Document(unittest.TestCase):
 
     def test_session(self):
         book, tables = Book(), Tables()
-        book.open(0, ACCOUNT_ORDINARY)
+        book.open(0, ACCOUNT_ORDINARY, 0)
         book.move(tables, 0, RUBLES, 100_000)
         self.assertEqual(book.report(tables, 0), (100_000, 0, 0, 0, 100_000))
 
@@ -93,11 +94,41 @@ class Document(unittest.TestCase):
             self.assertEqual(tables.covers(0), passes)
         self.assertFalse(tables.covers(1) or tables.covers(16))
 
+    def test_two_accounts_on_one_settlement_code(self):
+        """Accounts 1 and 2 on one code, account 0 on none: 40 units in one and an obligation of 30 in the other. Collateral is adjusted within each
+        block, so 20 of the 40 count, as in S2, and the code is short of 10, as in S4; in one block the 40 would cover the sale, as in S3."""
+        book, tables = start()
+        for account in (1, 2):
+            book.open(account, ACCOUNT_ORDINARY, LAST_SETTLEMENT_CODE)
+            self.assertEqual(book.numbers[block_at(account, BLOCK_SETTLEMENT_CODE)], 15)
+        book.numbers[collateral_at(1, 0)] = 40
+        book.numbers[obligation_at(2, 0, 0)] = 30
+        for account in (1, 2):
+            self.assertEqual(book.report(tables, account), (-100_000, 30_000, 2_000, 0, -132_000))
+        book.move(tables, 1, RUBLES, 132_000)
+        self.assertEqual(book.report(tables, 2).limit, 0)
+        self.refused(Code.NEGATIVE_LIMIT, book.move, tables, 1, RUBLES, -1)
+        self.assertEqual(book.report(tables, 0), (0, 0, 0, 0, 0))
+
+    def test_settlement_codes_that_cannot_be_shared(self):
+        book, tables = start()
+        for code in (-1, LAST_SETTLEMENT_CODE + 1):
+            self.refused(Code.WRONG_CHOICE, book.open, 1, ACCOUNT_ORDINARY, code)
+        for account in range(1, 5):
+            book.open(account, ACCOUNT_POOL, 7)
+        before = book.numbers[:]
+        self.refused(Code.WRONG_CHOICE, book.open, 5, ACCOUNT_POOL, 7)
+        self.assertEqual(book.numbers, before)
+        book.numbers[block_at(4, BLOCK_KIND)] = ACCOUNT_ORDINARY
+        for account in range(1, 5):
+            self.refused(Code.BROKEN_BLOCK, book.report, tables, account)
+        self.assertEqual(book.report(tables, 0), (0, 0, 0, 0, 0))
+
     def test_refusals(self):
         book, tables = start()
         self.refused(Code.NO_ACCOUNT, book.roll, 16)
         self.refused(Code.NOT_OPEN, book.report, tables, 1)
-        self.refused(Code.ALREADY_OPEN, book.open, 0, ACCOUNT_POOL)
+        self.refused(Code.ALREADY_OPEN, book.open, 0, ACCOUNT_POOL, 0)
         self.refused(Code.WRONG_CHOICE, book.order, tables, 0, 0, 8, BUY, 1, 0)
         self.refused(Code.WRONG_AMOUNT, book.order, tables, 0, 0, 7, BUY, 0, 0)
         self.refused(Code.OUT_OF_BOUNDS, book.move, tables, 0, 0, -1)

@@ -1,10 +1,10 @@
-"""The app's feed: figures as floats and their bits, each gauge, reading back and refusals. SINGLE_LIMIT_LIBRARY names the library."""
+"""The app's feed: figures as floats and their bits, each gauge, figures too large, reading back and refusals. SINGLE_LIMIT_LIBRARY names the library."""
 
 import struct
 import unittest
 from array import array
 
-from single_limit import Book, Code, Refused, Tables, app_read, block_at, claim_at, obligation_at, row_at
+from single_limit import Book, Code, Refused, Tables, app_read, block_at, claim_at, collateral_at, obligation_at, row_at
 from single_limit.names import *
 
 HEAD = [ASSET_SECURITY, 10_000, 5_000, 10_000, SALES_RECORDED, 0, 2_000, 3_000, 4_000, 5_000, 100, 100, 1, 0, 0, 0]
@@ -17,7 +17,7 @@ def spread(rubles):
     book, tables = Book(), Tables()
     tables.clearing[: row_at(2, 0)] = ROW_A + ROW_A
     tables.groups[0] = 25
-    book.open(0, ACCOUNT_ORDINARY)
+    book.open(0, ACCOUNT_ORDINARY, 0)
     book.numbers[block_at(0, BLOCK_RUBLE_COLLATERAL)] = rubles
     book.numbers[claim_at(0, 0, 1)] = 10
     book.numbers[obligation_at(0, 1, 1)] = 10
@@ -55,7 +55,7 @@ class AppFeed(unittest.TestCase):
 
     def test_zeros(self):
         book = Book()
-        book.open(0, ACCOUNT_ORDINARY)
+        book.open(0, ACCOUNT_ORDINARY, 0)
         self.assertEqual(book.app(Tables(), 0).bits, 5 * (0,), "not -0.0")
 
     def test_refused(self):
@@ -66,6 +66,25 @@ class AppFeed(unittest.TestCase):
         self.refused(Code.BROKEN_NUMBER, book.app, tables, 0)
         tables.groups = array("q")
         self.refused(Code.WRONG_LENGTH, book.app, tables, 16)
+
+    def test_figures_too_large(self):
+        """Accounts on one settlement code, each with as much as a block can hold, 2,340,000,000,000,000 kopecks: four of them come beyond 2^53."""
+        book, tables = Book(), Tables()
+        for asset in range(ASSETS):
+            tables.clearing[row_at(asset, ROW_KIND) : row_at(asset, ROW_POOL_SHARE)] = array("q", [ASSET_SECURITY, MOST_PRICE, WHOLE])
+        for account in range(4):
+            book.open(account, ACCOUNT_ORDINARY, 1)
+            for at in range(BLOCK_RUBLE_COLLATERAL, BLOCK_SPARE):
+                book.numbers[block_at(account, at)] = MOST_RUBLES
+            for asset in range(ASSETS):
+                for at in range(HOLDING_OBLIGATIONS):
+                    book.numbers[collateral_at(account, asset) + at] = MOST_UNITS
+            valuation = 2_340_000_000_000_000 * (account + 1)
+            self.assertEqual(book.report(tables, 0).valuation, valuation)
+            if valuation < 2**53:
+                self.assertEqual(book.app(tables, 0).figures.valuation, valuation)
+            else:
+                self.refused(Code.OUT_OF_BOUNDS, book.app, tables, 0)
 
     def test_reading_back(self):
         bits = [1, MINUS, INFINITY, MINUS | INFINITY, 0]

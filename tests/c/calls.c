@@ -131,7 +131,7 @@ static void cover(const int64_t *n) {
     printf("%u\n", passes);
 }
 
-static void open_account(const int64_t *n) { answer_code(single_limit_open(LENT(book), n[0], n[1])); }
+static void open_account(const int64_t *n) { answer_code(single_limit_open(LENT(book), n[0], n[1], n[2])); }
 static void move(const int64_t *n) { answer_code(single_limit_move(LENT(book), TABLES, n[0], n[1], n[2])); }
 static void order(const int64_t *n) { answer_code(single_limit_order(LENT(book), TABLES, n[0], n[1], n[2], n[3], n[4], n[5])); }
 static void roll(const int64_t *n) { answer_code(single_limit_roll(LENT(book), n[0])); }
@@ -195,7 +195,7 @@ static const struct command {
     {"Z", 0, reset},
     {"check", 0, check},
     {"cover", 1, cover},
-    {"open", 2, open_account},
+    {"open", 3, open_account},
     {"move", 3, move},
     {"order", 6, order},
     {"roll", 1, roll},

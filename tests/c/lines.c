@@ -50,7 +50,7 @@ static void report(int64_t account) {
 
 static int code_of(const unsigned char *f, size_t length) {
     if (f[0] == 1 && length == 11) return set_parameter(f);
-    if (f[0] == 2 && length == 3) return single_limit_open(book, BOOK, f[1], f[2]);
+    if (f[0] == 2 && length == 4) return single_limit_open(book, BOOK, f[1], f[2], f[3]);
     if (f[0] == 3 && length == 11) return single_limit_move(book, BOOK, TABLES, f[1], f[2], n8(f + 3));
     if (f[0] == 4 && length == 21) return single_limit_order(book, BOOK, TABLES, f[1], f[2], f[3], f[4], n8(f + 5), n8(f + 13));
     if (f[0] == 5 && length == 2) return single_limit_roll(book, BOOK, f[1]);

@@ -2,6 +2,9 @@
  * and every code and gauge is provoked; rows are in rows.c. Says nothing and returns 0 where all is as named. */
 #include "start.h"
 
+/* An account before the one that is open. */
+enum { OTHER = 2 };
+
 /* What calls write stands where the helpers say, and nothing else is written. */
 static void blocks(void) {
     int64_t wanted[SINGLE_LIMIT_BOOK_LENGTH] = {0};
@@ -21,10 +24,26 @@ static void blocks(void) {
     }
     expect("the book", memcmp(book, wanted, sizeof book), 0);
     for (size_t i = SINGLE_LIMIT_BLOCK_SPARE; i < SINGLE_LIMIT_BLOCK_HOLDINGS; i++) {
-        book[single_limit_block_at(ACCOUNT, i)] = 1;
+        book[single_limit_block_at(ACCOUNT, i)] = i == SINGLE_LIMIT_BLOCK_SETTLEMENT_CODE ? 16 : 1;
         expect("a spare number", single_limit_roll(BOOK, ACCOUNT), SINGLE_LIMIT_REFUSED_BROKEN_BLOCK);
         book[single_limit_block_at(ACCOUNT, i)] = 0;
     }
+}
+
+/* A code given at opening is found by its name; put there by its name, it is shared. Forty of collateral in one block and thirty owed in another
+ * leave ten short: only twenty of the forty count. */
+static void settlement_code(void) {
+    start(SINGLE_LIMIT_ACCOUNT_ORDINARY);
+    expect("open on a code", single_limit_open(BOOK, OTHER, SINGLE_LIMIT_ACCOUNT_ORDINARY, 5), SINGLE_LIMIT_DONE);
+    expect("the code", book[single_limit_block_at(OTHER, SINGLE_LIMIT_BLOCK_SETTLEMENT_CODE)], 5);
+    expect("no code", book[single_limit_block_at(ACCOUNT, SINGLE_LIMIT_BLOCK_SETTLEMENT_CODE)], 0);
+    book[single_limit_collateral_at(ACCOUNT, ASSET)] = 40;
+    book[single_limit_obligation_at(OTHER, ASSET, 0)] = 30;
+    figures_are("S2 without a code", (const int64_t[]){200000, 40000, 2000, 0, 158000});
+    book[single_limit_block_at(ACCOUNT, SINGLE_LIMIT_BLOCK_SETTLEMENT_CODE)] = 5;
+    figures_are("two blocks of a code", (const int64_t[]){-100000, 30000, 2000, 0, -132000});
+    book[single_limit_block_at(OTHER, SINGLE_LIMIT_BLOCK_KIND)] = SINGLE_LIMIT_ACCOUNT_POOL;
+    expect("another kind on the code", single_limit_roll(BOOK, ACCOUNT), SINGLE_LIMIT_REFUSED_BROKEN_BLOCK);
 }
 
 /* Document 01's sums that tell kinds of account, covered sales and figures apart. */
@@ -101,8 +120,9 @@ static void codes(void) {
     expect("length", single_limit_roll(book, SINGLE_LIMIT_BOOK_LENGTH + 1, ACCOUNT), SINGLE_LIMIT_REFUSED_WRONG_LENGTH);
     expect("account", single_limit_roll(BOOK, SINGLE_LIMIT_ACCOUNTS), SINGLE_LIMIT_REFUSED_NO_ACCOUNT);
     expect("last account", single_limit_roll(BOOK, SINGLE_LIMIT_ACCOUNTS - 1), SINGLE_LIMIT_REFUSED_NOT_OPEN);
-    expect("open", single_limit_open(BOOK, ACCOUNT, SINGLE_LIMIT_ACCOUNT_POOL), SINGLE_LIMIT_REFUSED_ALREADY_OPEN);
-    expect("kind", single_limit_open(BOOK, 0, SINGLE_LIMIT_ACCOUNT_NOT_OPEN), SINGLE_LIMIT_REFUSED_WRONG_CHOICE);
+    expect("open", single_limit_open(BOOK, ACCOUNT, SINGLE_LIMIT_ACCOUNT_POOL, 0), SINGLE_LIMIT_REFUSED_ALREADY_OPEN);
+    expect("kind", single_limit_open(BOOK, 0, SINGLE_LIMIT_ACCOUNT_NOT_OPEN, 0), SINGLE_LIMIT_REFUSED_WRONG_CHOICE);
+    expect("code", single_limit_open(BOOK, 0, SINGLE_LIMIT_ACCOUNT_ORDINARY, 16), SINGLE_LIMIT_REFUSED_WRONG_CHOICE);
     expect("asset", move(SINGLE_LIMIT_ASSETS, 1), SINGLE_LIMIT_REFUSED_WRONG_CHOICE);
     expect("date", order(SINGLE_LIMIT_DATES, SINGLE_LIMIT_BUY, 1, 1), SINGLE_LIMIT_REFUSED_WRONG_CHOICE);
     expect("amount", move(ASSET, SINGLE_LIMIT_MOST_UNITS + 1), SINGLE_LIMIT_REFUSED_WRONG_AMOUNT);
@@ -129,6 +149,7 @@ static void codes(void) {
 
 int main(void) {
     blocks();
+    settlement_code();
     figures();
     named_figures();
     gauges();

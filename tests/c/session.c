@@ -1,5 +1,5 @@
-/* Document 01's session, its two orders at the edge, the app's feed of both accounts, and refusals, by the calls of include/single_limit.h. Says
- * nothing and returns 0 where all is as the documents say. */
+/* Document 01's session, its two orders at the edge, two accounts of one settlement code, the app's feed, and refusals, by the calls of
+ * include/single_limit.h. Says nothing and returns 0 where all is as the documents say. */
 #include "single_limit.h"
 
 #include <stdio.h>
@@ -48,7 +48,7 @@ static void lend_row_a(void) {
 
 static void the_session(void) {
     int64_t figures[5];
-    expect("open", single_limit_open(book, BOOK, 0, 1), 0);
+    expect("open", single_limit_open(book, BOOK, 0, 1, 0), 0);
     expect("deposit", move(0, RUBLES, 100000), 0);
     expect("report", report(0, figures), 0);
     expect("valuation", figures[0], 100000);
@@ -58,7 +58,7 @@ static void the_session(void) {
 static void the_edge(void) {
     int64_t figures[5];
     lend_row_a();
-    expect("open 1", single_limit_open(book, BOOK, 1, 1), 0);
+    expect("open 1", single_limit_open(book, BOOK, 1, 1, 0), 0);
     expect("20,999 kopecks", move(1, RUBLES, 20999), 0);
     expect("the order refused", buy_ten(1), 10);
     expect("one more kopeck", move(1, RUBLES, 1), 0);
@@ -67,6 +67,25 @@ static void the_edge(void) {
     expect("limit 1", figures[4], 0);
     expect("a roll", single_limit_roll(book, BOOK, 1), 0);
     expect("the claim a day later", book[BLOCK + 17], 10);
+}
+
+/* Two accounts of one settlement code: the second buys with the kopecks of the first, which cannot take them out then. Both report the same. */
+static void one_code(void) {
+    int64_t figures[5];
+    expect("open 6 on code 5", single_limit_open(book, BOOK, 6, 1, 5), 0);
+    expect("open 7 on code 5", single_limit_open(book, BOOK, 7, 1, 5), 0);
+    expect("its code", book[7 * BLOCK + 13], 5);
+    expect("another kind on the code", single_limit_open(book, BOOK, 8, 2, 5), 7);
+    expect("code 16", single_limit_open(book, BOOK, 8, 1, 16), 7);
+    expect("code -1", single_limit_open(book, BOOK, 8, 1, -1), 7);
+    expect("21,000 kopecks of another", move(6, RUBLES, 21000), 0);
+    expect("an order by them", buy_ten(7), 0);
+    expect("a kopeck back", move(6, RUBLES, -1), 10);
+    for (int64_t account = 6; account <= 7; account++) {
+        expect("report of the code", report(account, figures), 0);
+        expect("its valuation", figures[0], 21000);
+        expect("its limit", figures[4], 0);
+    }
 }
 
 /* A figures buffer that has not five numbers is code 1, and stays as it was. */
@@ -186,7 +205,7 @@ static void refusals(void) {
     expect("zeros", figures[0] | figures[1] | figures[2] | figures[3] | figures[4], 0);
     expect("account 2 is not open", report(2, figures), 4);
     other_figures_lengths();
-    expect("open twice", single_limit_open(book, BOOK, 0, 1), 5);
+    expect("open twice", single_limit_open(book, BOOK, 0, 1, 0), 5);
     expect("a move of nothing", move(0, 0, 0), 8);
     expect("more than there is", move(1, RUBLES, -21001), 9);
     expect("sound tables", single_limit_check_tables(clearing, TABLE, own, TABLE, groups, GROUPS, &place), 0);
@@ -203,6 +222,7 @@ static void refusals(void) {
 int main(void) {
     the_session();
     the_edge();
+    one_code();
     covers();
     the_feed();
     refusals_of_the_feed();

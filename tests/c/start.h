@@ -42,7 +42,7 @@ static inline void row_a(int64_t *table, size_t asset) {
     }
 }
 
-/* An open account without holdings, row A and group 1 at 25 percent. */
+/* An open account without holdings and without a settlement code, row A and group 1 at 25 percent. */
 static inline void start(int64_t kind) {
     memset(book, 0, sizeof book);
     memset(clearing, 0, sizeof clearing);
@@ -50,7 +50,7 @@ static inline void start(int64_t kind) {
     memset(groups, 0, sizeof groups);
     row_a(clearing, ASSET);
     groups[0] = 25;
-    expect("open", single_limit_open(BOOK, ACCOUNT, kind), SINGLE_LIMIT_DONE);
+    expect("open", single_limit_open(BOOK, ACCOUNT, kind, 0), SINGLE_LIMIT_DONE);
 }
 
 static inline uint8_t move(int64_t asset, int64_t amount) { return single_limit_move(BOOK, TABLES, ACCOUNT, asset, amount); }

@@ -1,6 +1,7 @@
-//! Times the calls, for 1, 4 and 16 listed assets, and three of them for 16 assets with 0, 5 and 16 own rows. Lines on standard
-//! output, tab-separated: `speed` (rounds.rs); `cost`, what an order costs in reports of accounts that hold the same assets; `own`,
-//! what a call costs by the count of own rows.
+//! Times the calls, for 1, 4 and 16 listed assets, three of them for 16 assets with 0, 5 and 16 own rows, and two for settlement codes
+//! of 1, 2 and 4 blocks with 16 assets each. Lines on standard output, tab-separated: `speed` (rounds.rs); `cost`, what an order costs
+//! in reports of accounts that hold the same assets; `own`, what a call costs by the count of own rows; `code`, by the count of
+//! blocks on the account's code.
 
 use bench::input::{Input, Owned};
 use bench::rounds::{self, ROUNDS, Times};
@@ -9,6 +10,9 @@ use bench::work::{CALLS, COUNT, Call, Side};
 
 /// What own rows are measured in.
 const WITH_OWN_ROWS: [Call; 3] = [Call::CheckTables, Call::Report, Call::OrderAdmitted];
+/// What settlement codes are measured in, and how many blocks share one.
+const ON_CODES: [Call; 2] = [Call::Report, Call::OrderAdmitted];
+const BLOCKS: [usize; 3] = [1, 2, 4];
 /// The assets listed there.
 const LISTED: usize = 16;
 
@@ -24,7 +28,11 @@ fn main() {
     }
     let mut inputs = Owned::EACH.map(|owned| Input::new(LISTED, owned));
     inputs.iter().for_each(same::check);
-    print_own_rows(&measure(&mut inputs, WITH_OWN_ROWS));
+    let times = measure(&mut inputs, WITH_OWN_ROWS);
+    print_against_first("own", Owned::EACH.map(|owned| owned.rows(LISTED)), WITH_OWN_ROWS, &times);
+    let mut inputs = BLOCKS.map(|blocks| Input::on_codes(LISTED, Owned::Third, blocks));
+    inputs.iter().for_each(same::check);
+    print_against_first("code", BLOCKS, ON_CODES, &measure(&mut inputs, ON_CODES));
 }
 
 /// Of each input and each call the times of engine and second; in each round every call of every input runs once.
@@ -74,14 +82,19 @@ fn print_costs(listed: usize, times: &[[Times; 2]; COUNT]) {
     }
 }
 
-/// Each against the same call without own rows, in the same rounds.
-fn print_own_rows(times: &[[[Times; 2]; WITH_OWN_ROWS.len()]; Owned::EACH.len()]) {
-    for (owned, of_input) in Owned::EACH.iter().zip(times) {
-        for (at, call) in WITH_OWN_ROWS.iter().enumerate() {
+/// Each against the same call with the first input, in the same rounds; `counts` says what the inputs differ in.
+fn print_against_first<const INPUTS: usize, const N: usize>(
+    line: &str,
+    counts: [usize; INPUTS],
+    calls: [Call; N],
+    times: &[[[Times; 2]; N]; INPUTS],
+) {
+    for (count, of_input) in counts.iter().zip(times) {
+        for (at, call) in calls.iter().enumerate() {
             let [engine, second] = &of_input[at];
             let [faster, least, greatest] = rounds::ratio(engine, second);
             let [per_engine, per_second] = [engine, second].map(|side| 1.0 / rounds::median(side));
-            print!("own\t{}\t{}\t{per_engine:.0}\t{per_second:.0}", call.name(), owned.rows(LISTED));
+            print!("{line}\t{}\t{count}\t{per_engine:.0}\t{per_second:.0}", call.name());
             print!("\t{faster:.2}\t{least:.2}\t{greatest:.2}");
             for side in 0..2 {
                 let [middle, least, greatest] = rounds::ratio(&times[0][at][side], &of_input[at][side]);

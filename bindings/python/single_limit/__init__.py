@@ -5,7 +5,7 @@
 
     single_limit.load("libsingle_limit.so")  # or SINGLE_LIMIT_LIBRARY in the environment
     book, tables = single_limit.Book(), single_limit.Tables()
-    book.open(0, ACCOUNT_ORDINARY)
+    book.open(0, ACCOUNT_ORDINARY, 0)
     book.move(tables, 0, RUBLES, 100_000)
     book.report(tables, 0).limit  # 100000
 
@@ -17,4 +17,4 @@ from .face import load
 from .feed import Feed, Floats, app_read
 from .refusal import Code, Refused
 
-__version__ = "2.0.0"
+__version__ = "3.0.0"

@@ -53,9 +53,10 @@ class Book:
     def __init__(self):
         self.numbers = zeros(names.BOOK_LENGTH)
 
-    def open(self, account, kind):
-        """Open an account of a kind (ACCOUNT_ORDINARY, ACCOUNT_POOL, ACCOUNT_POOL_OF_THE_LIST)."""
-        passed(call("open", *lent(self.numbers), number(account), number(kind)))
+    def open(self, account, kind, code):
+        """Open an account of a kind (ACCOUNT_ORDINARY, ACCOUNT_POOL, ACCOUNT_POOL_OF_THE_LIST) on a settlement code, 1 to LAST_SETTLEMENT_CODE, or on
+        0, none. At most four accounts of one kind share a code; they are valued together."""
+        passed(call("open", *lent(self.numbers), *map(number, (account, kind, code))))
 
     def move(self, tables, account, asset, amount):
         """Move collateral of an asset, or of RUBLES: a positive amount deposits, a negative one withdraws."""
@@ -73,13 +74,14 @@ class Book:
         passed(call("roll", *lent(self.numbers), number(account)))
 
     def report(self, tables, account):
-        """The five figures of an account."""
+        """The five figures of an account; of one on a settlement code those of all on that code."""
         figures = zeros(names.FIGURES_LENGTH)
         passed(call("report", *lent(self.numbers), *tables.lent(), number(account), *lent(figures)))
         return Figures(*figures)
 
     def app(self, tables, account):
-        """An account's report for the app; app_read reads the bits of it back."""
+        """An account's report for the app; app_read reads the bits of it back. A figure of 2^53 or more in size, which only several accounts on one
+        settlement code come to, is refused as OUT_OF_BOUNDS."""
         bits, gauge, shown = array("Q", names.FIGURES_LENGTH * [0]), ctypes.c_uint8(), ctypes.c_double()
         written = *lent(bits, typecode="Q"), ctypes.byref(gauge), ctypes.byref(shown)
         passed(call("app", *lent(self.numbers), *tables.lent(), number(account), *written))

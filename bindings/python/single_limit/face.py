@@ -27,7 +27,7 @@ def numbers(*words):
 FUNCTIONS = {
     "single_limit_check_tables": TABLES + [("place", UNSIGNED)],
     "single_limit_covers": RATES + numbers("asset"),
-    "single_limit_open": BOOK + numbers("account", "kind"),
+    "single_limit_open": BOOK + numbers("account", "kind", "code"),
     "single_limit_move": BOOK + TABLES + numbers("account", "asset", "amount"),
     "single_limit_order": BOOK + TABLES + numbers("account", "asset", "date", "side", "quantity", "money"),
     "single_limit_roll": BOOK + numbers("account"),

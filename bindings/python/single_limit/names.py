@@ -69,16 +69,18 @@ BLOCK_KIND = 0
 BLOCK_RUBLE_COLLATERAL = 1
 BLOCK_RUBLE_NETS = 2
 BLOCK_SPARE = 10
+BLOCK_SETTLEMENT_CODE = 13
 BLOCK_HOLDINGS = 16
 HOLDING_COLLATERAL = 0
 HOLDING_CLAIMS = 1
 HOLDING_OBLIGATIONS = 9
 
-# Kinds of an account, the asset that stands for rubles in a move, and sides of an order.
+# Kinds of an account, the last settlement code, the asset that stands for rubles in a move, and sides of an order.
 ACCOUNT_NOT_OPEN = 0
 ACCOUNT_ORDINARY = 1
 ACCOUNT_POOL = 2
 ACCOUNT_POOL_OF_THE_LIST = 3
+LAST_SETTLEMENT_CODE = 15
 RUBLES = 255
 BUY = 0
 SELL = 1

@@ -16,9 +16,10 @@ use crate::tables::Tables;
 pub struct Book(Box<[i64; BOOK_LENGTH]>);
 
 impl Book {
-    /// Open an account of a kind (`names::ACCOUNT_ORDINARY`, `ACCOUNT_POOL`, `ACCOUNT_POOL_OF_THE_LIST`).
-    pub fn open(&mut self, account: i64, kind: i64) -> Result<(), Refusal> {
-        calls::open(&mut self.0[..], account, kind)
+    /// Open an account of a kind (`names::ACCOUNT_ORDINARY`, `ACCOUNT_POOL`, `ACCOUNT_POOL_OF_THE_LIST`) on a settlement code, 1 to
+    /// `names::LAST_SETTLEMENT_CODE`, or on 0, none. At most four accounts of one kind share a code; they are valued together.
+    pub fn open(&mut self, account: i64, kind: i64, code: i64) -> Result<(), Refusal> {
+        calls::open(&mut self.0[..], account, kind, code)
     }
 
     /// Move collateral of an asset, or of `names::RUBLES`: a positive amount deposits, a negative one withdraws.
@@ -36,12 +37,13 @@ impl Book {
         calls::roll(&mut self.0[..], account)
     }
 
-    /// Report an account.
+    /// Report an account; of one on a settlement code the figures are those of all on that code.
     pub fn report(&self, tables: &Tables, account: i64) -> Result<Figures, Refusal> {
         calls::report(&self.0[..], tables.lent(), account)
     }
 
-    /// Feed the app with an account's report; `calls::app_read` reads the feed's bits back.
+    /// Feed the app with an account's report; `calls::app_read` reads the feed's bits back. A figure of 2^53 or more in size, which only several
+    /// accounts on one settlement code come to, is `Refusal::OutOfBounds`.
     pub fn app(&self, tables: &Tables, account: i64) -> Result<Feed, Refusal> {
         calls::app(&self.0[..], tables.lent(), account)
     }

@@ -72,9 +72,10 @@ pub fn covers(clearing: &[i64], own: &[i64], asset: i64) -> bool {
     unsafe { face::single_limit_covers(clearing.as_ptr(), clearing.len(), own.as_ptr(), own.len(), asset) == 1 }
 }
 
-/// Open an account of a kind (`names::ACCOUNT_ORDINARY`, `ACCOUNT_POOL`, `ACCOUNT_POOL_OF_THE_LIST`).
-pub fn open(book: &mut [i64], account: i64, kind: i64) -> Result<(), Refusal> {
-    answer(unsafe { face::single_limit_open(book.as_mut_ptr(), book.len(), account, kind) })
+/// Open an account of a kind (`names::ACCOUNT_ORDINARY`, `ACCOUNT_POOL`, `ACCOUNT_POOL_OF_THE_LIST`) on a settlement code, 1 to
+/// `names::LAST_SETTLEMENT_CODE`, which at most four accounts of one kind share, or on 0, none.
+pub fn open(book: &mut [i64], account: i64, kind: i64, code: i64) -> Result<(), Refusal> {
+    answer(unsafe { face::single_limit_open(book.as_mut_ptr(), book.len(), account, kind, code) })
 }
 
 /// Move collateral of an asset, or of `names::RUBLES`: a positive amount deposits, a negative one withdraws.
@@ -126,7 +127,7 @@ pub fn roll(book: &mut [i64], account: i64) -> Result<(), Refusal> {
     answer(unsafe { face::single_limit_roll(book.as_mut_ptr(), book.len(), account) })
 }
 
-/// Report an account.
+/// Report an account; of one on a settlement code the figures are those of all on that code.
 pub fn report(book: &[i64], lent: Lent<'_>, account: i64) -> Result<Figures, Refusal> {
     let Lent { clearing, own, groups } = lent;
     let mut figures = [0; FIGURES_LENGTH];
@@ -149,7 +150,8 @@ pub fn report(book: &[i64], lent: Lent<'_>, account: i64) -> Result<Figures, Ref
     Ok(Figures { valuation, market_risk, interest_risk, discount, limit })
 }
 
-/// Feed the app with an account's report.
+/// Feed the app with an account's report. A figure of 2^53 or more in size, which only several accounts on one settlement code come to, is
+/// `Refusal::OutOfBounds`.
 pub fn app(book: &[i64], lent: Lent<'_>, account: i64) -> Result<Feed, Refusal> {
     let Lent { clearing, own, groups } = lent;
     let (mut bits, mut gauge, mut shown) = ([0; FIGURES_LENGTH], 0, 0.0);

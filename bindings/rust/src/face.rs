@@ -19,7 +19,7 @@ unsafe extern "C" {
         asset: i64,
     ) -> u8;
 
-    pub fn single_limit_open(book: *mut i64, book_length: usize, account: i64, kind: i64) -> u8;
+    pub fn single_limit_open(book: *mut i64, book_length: usize, account: i64, kind: i64, code: i64) -> u8;
 
     pub fn single_limit_move(
         book: *mut i64,

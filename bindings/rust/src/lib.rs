@@ -5,10 +5,10 @@
 //! use single_limit::{Book, Refusal, Tables, names::*};
 //!
 //! let (mut book, tables) = (Book::default(), Tables::default());
-//! book.open(0, ACCOUNT_ORDINARY)?;
+//! book.open(0, ACCOUNT_ORDINARY, 0)?;
 //! book.move_collateral(&tables, 0, RUBLES, 100_000)?;
 //! assert_eq!(book.report(&tables, 0)?.limit, 100_000);
-//! assert_eq!(book.open(0, ACCOUNT_POOL), Err(Refusal::AlreadyOpen));
+//! assert_eq!(book.open(0, ACCOUNT_POOL, 0), Err(Refusal::AlreadyOpen));
 //! # Ok::<(), Refusal>(())
 //! ```
 //!

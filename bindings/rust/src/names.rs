@@ -71,16 +71,18 @@ pub const BLOCK_KIND: usize = 0;
 pub const BLOCK_RUBLE_COLLATERAL: usize = 1;
 pub const BLOCK_RUBLE_NETS: usize = 2;
 pub const BLOCK_SPARE: usize = 10;
+pub const BLOCK_SETTLEMENT_CODE: usize = 13;
 pub const BLOCK_HOLDINGS: usize = 16;
 pub const HOLDING_COLLATERAL: usize = 0;
 pub const HOLDING_CLAIMS: usize = 1;
 pub const HOLDING_OBLIGATIONS: usize = 9;
 
-// Kinds of an account, the asset that stands for rubles in a move, and sides of an order.
+// Kinds of an account, the last settlement code, the asset that stands for rubles in a move, and sides of an order.
 pub const ACCOUNT_NOT_OPEN: i64 = 0;
 pub const ACCOUNT_ORDINARY: i64 = 1;
 pub const ACCOUNT_POOL: i64 = 2;
 pub const ACCOUNT_POOL_OF_THE_LIST: i64 = 3;
+pub const LAST_SETTLEMENT_CODE: i64 = 15;
 pub const RUBLES: i64 = 255;
 pub const BUY: i64 = 0;
 pub const SELL: i64 = 1;

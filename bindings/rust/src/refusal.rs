@@ -19,13 +19,15 @@ pub enum Refusal {
     NotOpen = 4,
     /// Open on an open account.
     AlreadyOpen = 5,
-    /// The block breaks the block rules, or holds something of an unlisted asset.
+    /// The block breaks the block rules, or holds something of an unlisted asset, or another block on its settlement code does so; or that code has
+    /// two kinds or more than four blocks.
     BrokenBlock = 6,
-    /// An asset, a date, a side or a kind that there is not.
+    /// An asset, a date, a side, a kind or a settlement code that there is not; or a code that the account to open cannot share.
     WrongChoice = 7,
     /// A quantity, a sum of money or a move outside its bounds.
     WrongAmount = 8,
-    /// A number would leave its bounds, or a withdrawal would leave collateral below 0; or bits that are read back are a NaN's.
+    /// A number would leave its bounds, or a withdrawal would leave collateral below 0; or a figure for the app is 2^53 or more in size; or bits
+    /// that are read back are a NaN's.
     OutOfBounds = 9,
     /// The limit after a withdrawal would be negative, or after an order negative and not raised by it.
     NegativeLimit = 10,
@@ -63,17 +65,20 @@ impl Refusal {
             Refusal::NotOpen => "account not open",
             Refusal::AlreadyOpen => "open on an open account",
             Refusal::BrokenBlock => {
-                "block breaks the block rules; where tables are lent, also a nonzero holding in an unlisted asset"
+                "block, or another on its settlement code, breaks the block rules; two kinds or more than four blocks on that code; \
+                 where tables are lent, also a nonzero holding of one of them in an unlisted asset"
             }
             Refusal::WrongChoice => {
                 "asset unlisted or not 0 to 15 (a move also takes 255, rubles), date not 0 to 7, side not 0 or 1, \
-                 account kind to open not 1 to 3"
+                 account kind to open not 1 to 3, settlement code to open on not 0 to 15, or with four blocks on it already, \
+                 or with one on it of another kind or a broken one"
             }
             Refusal::WrongAmount => {
                 "quantity not 1 to 10^6; order money not 0 to 10^14; move 0, or beyond 10^6 either way (10^14 for rubles)"
             }
             Refusal::OutOfBounds => {
-                "a number would leave its bounds, or a withdrawal would leave collateral below 0; a NaN's pattern read back"
+                "a number would leave its bounds, or a withdrawal would leave collateral below 0; \
+                 a figure for the app of 2^53 or more in size; a NaN's pattern read back"
             }
             Refusal::NegativeLimit => {
                 "limit after a withdrawal would be negative, or after an order negative and not raised by it"

@@ -1,4 +1,4 @@
-//! Document 01's session, its sums S1 to S12, the orders at the edge, the cover test and refusals, by the crate's types.
+//! Document 01's session, its sums S1 to S12, the orders at the edge, the cover test, settlement codes and refusals, by the crate's types.
 
 use single_limit::book::{block_at, claim_at, collateral_at, obligation_at, ruble_net_at};
 use single_limit::names::*;
@@ -21,7 +21,7 @@ fn start(kind: i64) -> (Book, Tables) {
     let (mut book, mut tables) = (Book::default(), Tables::default());
     tables.clearing[0] = row_a();
     tables.groups[0] = 25;
-    book.open(0, kind).expect("opens");
+    book.open(0, kind, 0).expect("opens");
     (book, tables)
 }
 
@@ -45,7 +45,7 @@ fn sum(name: &str, kind: i64, otherwise: &[(usize, i64)], held: &[(usize, i64)],
 #[test]
 fn the_session() {
     let (mut book, tables) = (Book::default(), Tables::default());
-    assert_eq!(book.open(0, ACCOUNT_ORDINARY), Ok(()));
+    assert_eq!(book.open(0, ACCOUNT_ORDINARY, 0), Ok(()));
     assert_eq!(book.move_collateral(&tables, 0, RUBLES, 100_000), Ok(()));
     assert_eq!(book.report(&tables, 0).map(five), Ok([100_000, 0, 0, 0, 100_000]));
 }
@@ -114,6 +114,45 @@ fn the_cover_test() {
     assert!(!tables.covers(1) && !tables.covers(16));
 }
 
+/// Accounts 1 and 2 on one settlement code, account 0 on none: 40 units in one and an obligation of 30 in the other. Collateral is adjusted within
+/// each block, so 20 of the 40 count, as in S2, and the code is short of 10, as in S4; in one block the 40 would cover the sale, as in S3.
+#[test]
+fn two_accounts_on_one_settlement_code() {
+    let (mut book, tables) = start(ACCOUNT_ORDINARY);
+    for account in 1..3 {
+        assert_eq!(book.open(account, ACCOUNT_ORDINARY, LAST_SETTLEMENT_CODE), Ok(()));
+        assert_eq!(book.numbers()[block_at(account as usize, BLOCK_SETTLEMENT_CODE)], 15);
+    }
+    book.numbers_mut()[collateral_at(1, 0)] = 40;
+    book.numbers_mut()[obligation_at(2, 0, 0)] = 30;
+    for account in 1..3 {
+        assert_eq!(book.report(&tables, account).map(five), Ok([-100_000, 30_000, 2_000, 0, -132_000]));
+    }
+    assert_eq!(book.move_collateral(&tables, 1, RUBLES, 132_000), Ok(()));
+    assert_eq!(book.report(&tables, 2).map(|figures| figures.limit), Ok(0));
+    assert_eq!(book.move_collateral(&tables, 1, RUBLES, -1), Err(Refusal::NegativeLimit));
+    assert_eq!(book.report(&tables, 0).map(five), Ok([0; 5]));
+}
+
+#[test]
+fn settlement_codes_that_cannot_be_shared() {
+    let (mut book, tables) = start(ACCOUNT_ORDINARY);
+    for code in [-1, LAST_SETTLEMENT_CODE + 1] {
+        assert_eq!(book.open(1, ACCOUNT_ORDINARY, code), Err(Refusal::WrongChoice));
+    }
+    for account in 1..5 {
+        assert_eq!(book.open(account, ACCOUNT_POOL, 7), Ok(()));
+    }
+    let before = book.clone();
+    assert_eq!(book.open(5, ACCOUNT_POOL, 7), Err(Refusal::WrongChoice), "a fifth");
+    assert!(book == before, "a refusal leaves the book as it was");
+    book.numbers_mut()[block_at(4, BLOCK_KIND)] = ACCOUNT_ORDINARY;
+    for account in 1..5 {
+        assert_eq!(book.report(&tables, account), Err(Refusal::BrokenBlock), "two kinds");
+    }
+    assert_eq!(book.report(&tables, 0).map(five), Ok([0; 5]));
+}
+
 #[test]
 fn refusals() {
     let (mut book, mut tables) = start(ACCOUNT_ORDINARY);
@@ -121,7 +160,7 @@ fn refusals() {
     assert_eq!(calls::roll(&mut [0; 5], 0), Err(Refusal::WrongLength));
     assert_eq!(book.roll(16), Err(Refusal::NoAccount));
     assert_eq!(book.report(&tables, 1), Err(Refusal::NotOpen));
-    assert_eq!(book.open(0, ACCOUNT_POOL), Err(Refusal::AlreadyOpen));
+    assert_eq!(book.open(0, ACCOUNT_POOL, 0), Err(Refusal::AlreadyOpen));
     assert_eq!(book.order(&tables, 0, &order(8, 1)), Err(Refusal::WrongChoice));
     assert_eq!(book.order(&tables, 0, &order(7, 0)), Err(Refusal::WrongAmount));
     assert_eq!(book.move_collateral(&tables, 0, 0, -1), Err(Refusal::OutOfBounds));

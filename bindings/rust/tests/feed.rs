@@ -1,5 +1,6 @@
-//! The app's feed: figures as floats and their bits, each gauge, reading back and refusals.
+//! The app's feed: figures as floats and their bits, each gauge, figures too large, reading back and refusals.
 
+use single_limit::book::block_at;
 use single_limit::names::*;
 use single_limit::{Book, Floats, Gauge, Refusal, Tables, calls};
 
@@ -17,7 +18,7 @@ fn spread(rubles: i64) -> (Book, Tables) {
         }
     }
     tables.groups[0] = 25;
-    book.open(0, ACCOUNT_ORDINARY).expect("opens");
+    book.open(0, ACCOUNT_ORDINARY, 0).expect("opens");
     let numbers = book.numbers_mut();
     numbers[BLOCK_RUBLE_COLLATERAL] = rubles;
     numbers[single_limit::book::claim_at(0, 0, 1)] = 10;
@@ -55,7 +56,7 @@ fn each_gauge() {
 #[test]
 fn zeros() {
     let (mut book, tables) = (Book::default(), Tables::default());
-    book.open(0, ACCOUNT_ORDINARY).expect("opens");
+    book.open(0, ACCOUNT_ORDINARY, 0).expect("opens");
     assert_eq!(book.app(&tables, 0).expect("feeds").bits, [0; 5], "not -0.0");
 }
 
@@ -67,6 +68,27 @@ fn a_refused_feed() {
     assert_eq!(calls::app(&[0; 5], tables.lent(), 16), Err(Refusal::WrongLength));
     tables.groups[7] = 51;
     assert_eq!(book.app(&tables, 0), Err(Refusal::BrokenNumber));
+}
+
+/// Accounts on one settlement code, each with as much as a block can hold, 2,340,000,000,000,000 kopecks: four of them come beyond 2^53.
+#[test]
+fn figures_too_large() {
+    let (mut book, mut tables) = (Book::default(), Tables::default());
+    for asset in 0..ASSETS {
+        tables.clearing[asset][..ROW_POOL_SHARE].copy_from_slice(&[ASSET_SECURITY, MOST_PRICE, WHOLE]);
+    }
+    for account in 0..4 {
+        book.open(account, ACCOUNT_ORDINARY, 1).expect("opens");
+        let block = &mut book.numbers_mut()[block_at(account as usize, 0)..][..BLOCK_LENGTH];
+        block[BLOCK_RUBLE_COLLATERAL..BLOCK_SPARE].fill(MOST_RUBLES);
+        for holding in block[BLOCK_HOLDINGS..].chunks_mut(HOLDING_LENGTH) {
+            holding[..HOLDING_OBLIGATIONS].fill(MOST_UNITS);
+        }
+        let valuation = 2_340_000_000_000_000 * (account + 1);
+        assert_eq!(book.report(&tables, 0).expect("reports").valuation, valuation);
+        let fed = book.app(&tables, 0).map(|feed| feed.figures.valuation);
+        assert_eq!(fed, if valuation < 1 << 53 { Ok(valuation as f64) } else { Err(Refusal::OutOfBounds) });
+    }
 }
 
 #[test]

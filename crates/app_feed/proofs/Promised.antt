@@ -11,32 +11,34 @@ use lib.Signed.{leZ, ltZ, _≤ℤ_}
 use lib.Ieee.{binary64, div, toBits, ofBits, isNan}
 use lib.Ieee.Bits.{ofBits-toBits, toBits-ofBits, nanBits-is, is-true}
 use lib.Ieee.Fits.{ofInt-fits}
-use borrow.Author.Tests.{eq-eqb, eqb-true, not-false}
+use borrow.Author.Tests.{eq-eqb, eqb-true, eqb-false, not-false}
 use Rattle.whole.specs.Marks.{allTrue}
-use Rattle.whole.specs.Refusals.{firstCode, wrongLength}
+use Rattle.whole.specs.Refusals.{firstCode, wrongLength, outOfBounds}
 use Rattle.whole.proofs.InRange.{neg-size}
 use Rattle.whole.proofs.Rules.{ints}
 use Rattle.whole.proofs.Refusals.{none, miss, code, none-holds, kept, changed}
 use Rattle.whole.proofs.Tests.{denied}
 use Rattle.whole.proofs.Lists.{next, last, passes}
 use Rattle.rates.specs.Lent.{Tables}
+use Rattle.settlement.specs.Laws.{Unshared}
 use Rattle.figures.specs.Ranges.{Below2^53}
 use Rattle.figures.specs.declared.limit.Figures.{Figures}
 use Rattle.engine.specs.State.{State}
-use Rattle.engine.specs.Refused.{reportRefusals, figuresAt}
+use Rattle.engine.specs.Refused.{figuresAt}
 use Rattle.engine.specs.Report.{reportOf, noFigures, answerOf}
-use Rattle.app_feed.specs.Floats.{float, floatsOf, bitsOf, floatsAt, floatAt}
+use Rattle.engine.proofs.Reports.{figures-reported}
+use Rattle.app_feed.specs.Floats.{float, floatsOf, bitsOf, allBelow, floatsAt, floatAt}
 use Rattle.app_feed.specs.Gauge.{used, gaugeOf, Balanced}
 use Rattle.app_feed.specs.Feed.{feedRefusals, fedOf, sentOf}
 use Rattle.app_feed.specs.Received.{isPattern, readRefusals, receivedOf}
-use Rattle.app_feed.specs.Promised.{AreExactly, Gauges, Feeds, Refuses, Promised, SameBits}
+use Rattle.app_feed.specs.Promised.{sentCode, AreExactly, Gauges, Feeds, Refuses, Promised, SameBits}
 use Rattle.app_feed.specs.declared.feeding.Fed.{Fed}
 use Rattle.app_feed.specs.declared.gauge.Gauge.the-variants.{Empty, Over, Used}
 use Rattle.app_feed.proofs.Five.{as-five}
 use Rattle.app_feed.proofs.Patterns.{each-pattern}
 use Rattle.app_feed.proofs.Exact.{is-exactly, has-bits}
-use Rattle.app_feed.proofs.Reported.{reports-below, report-balanced}
-use Rattle.app_feed.proofs.Sending.{count-right}
+use Rattle.app_feed.proofs.Reported.{below-tested, reports-below, report-balanced}
+use Rattle.app_feed.proofs.Sending.{count-wrong, whole-code, passed-all}
 use Rattle.app_feed.proofs.Share.{share}
 
 -- ---- each float is exactly the whole number
@@ -138,24 +140,18 @@ same-bits bits small e =
 
 -- ---- a feed, by the report that it is made of
 module _ (tables : Tables) (i : ℕ) (s : State) (bits : List ℕ) where
-  count : sentOf tables i s bits .fed .code ≡ 0 → length bits ≡ 5
-  unfolding sentOf fedOf
-  count e = eqb-true (length bits) 5 (not-false _ (none-holds (feedRefusals tables i s (length bits)) tt e 0))
-
-  fed-is : length bits ≡ 5 → sentOf tables i s bits .fed ≡ fedOf (reportOf tables i s)
-  unfolding sentOf reportOf
-  fed-is long = ap (λ (n : ℕ). fedOf (answerOf n (figuresAt tables i s))) (sym (count-right tables i s bits long))
-
   feeds : sentOf tables i s bits .fed .code ≡ 0 → Feeds tables i s bits
-  unfolding sentOf fedOf
+  unfolding sentOf fedOf reportOf
   feeds e =
       let f = reportOf tables i s .figures in
-      let is = fed-is (count e) in
-      let answered : reportOf tables i s .code ≡ 0 = sym (ap (λ (fed : Fed). fed .code) is) ∙ e in
-      let below = reports-below tables i s answered in
+      let passed = passed-all tables i s bits e in
+      let answered : reportOf tables i s .code ≡ 0 = passed .1 in
+      let below = subst Below2^53 (sym (figures-reported tables i s answered)) (below-tested (figuresAt tables i s) .only (passed .2)) in
+      let is : sentOf tables i s bits .fed ≡ fedOf (reportOf tables i s) = ap (λ (n : ℕ). fedOf (answerOf n (figuresAt tables i s))) (e ∙ sym answered) in
       let out : sentOf tables i s bits .bits ≡ bitsOf (sentOf tables i s bits .fed .figures) = sym (changed _ _ bits e) in
       record {
         reported = answered;
+        below = below;
         exactly = subst (λ (fed : Fed). AreExactly (fed .figures) f) (sym is) (are-exactly f below);
         gauges = subst (λ (fed : Fed). Gauges f (fed .gauge)) (sym is) (gauges f below (report-balanced tables i s answered));
         writes = out;
@@ -174,13 +170,23 @@ module _ (tables : Tables) (i : ℕ) (s : State) (bits : List ℕ) where
         stays = sym (kept _ _ bits h);
       }
 
-  codes : sentOf tables i s bits .fed .code ≡ cond (eqb (length bits) 5) (reportOf tables i s .code) wrongLength
-  unfolding sentOf fedOf reportOf firstCode
-  codes = turned (eqb (length bits) 5) (firstCode (reportRefusals tables i s))
+  codes : sentOf tables i s bits .fed .code ≡ cond (eqb (length bits) 5) (sentCode (reportOf tables i s)) wrongLength
+  unfolding sentOf fedOf
+  codes = by (eqb (length bits) 5) refl
     where
-      turned : (right : Bool) (code : ℕ) → cond (not right) wrongLength code ≡ cond right code wrongLength
-      turned true code = refl
-      turned false code = refl
+      by : (t : Bool) → eqb (length bits) 5 ≡ t
+          → firstCode (feedRefusals tables i s (length bits)) ≡ cond t (sentCode (reportOf tables i s)) wrongLength
+      by true e = sym (whole-code tables i s bits (eqb-true (length bits) 5 e))
+      by false e = sym (count-wrong tables i s bits (eqb-false (length bits) 5 e))
+
+  -- of an account alone the test never fails
+  alone : Unshared (s .book) i → sentOf tables i s bits .fed .code ≡ cond (eqb (length bits) 5) (reportOf tables i s .code) wrongLength
+  alone unshared = codes ∙ ap (λ (n : ℕ). cond (eqb (length bits) 5) n wrongLength) (by (eqb (reportOf tables i s .code) 0) refl)
+    where
+      by : (t : Bool) → eqb (reportOf tables i s .code) 0 ≡ t → cond t (cond (allBelow (reportOf tables i s .figures)) 0 outOfBounds) (reportOf tables i s .code) ≡ reportOf tables i s .code
+      by true e = let z = eqb-true _ _ e in
+          ap (λ (b : Bool). cond b 0 outOfBounds) (below-tested (reportOf tables i s .figures) .passes (reports-below tables i s unshared z)) ∙ sym z
+      by false e = refl
 
 pub promised : Promised
-promised = record { codes = codes; feeds = feeds; refuses = refuses }
+promised = record { codes = codes; alone = alone; feeds = feeds; refuses = refuses }

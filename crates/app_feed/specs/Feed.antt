@@ -2,25 +2,27 @@
 -- unless refused the floats' bits in the five numbers.
 -- Assumes nothing.
 use mathlib.Core.Bool.{not}
-use mathlib.Core.List.{List, _∷_}
+use mathlib.Core.List.{List, [], _∷_, _++_}
 use Prim.Native.Nat.{ℕ}
 use denote.Ref.{RefT, now}
 use denote.Triple.Both.{Both}
 use lib.Dec.{eqb}
 use lib.ListN.{length}
-use Rattle.whole.specs.Refusals.{Refusal, _gives_, firstCode, leaves, wrongLength}
+use Rattle.whole.specs.Refusals.{Refusal, _gives_, firstCode, leaves, wrongLength, outOfBounds}
 use Rattle.rates.specs.Lent.{Tables}
 use Rattle.engine.specs.State.{State}
 use Rattle.engine.specs.Refused.{reportRefusals, figuresAt}
 use Rattle.engine.specs.Report.{answerOf}
 use Rattle.engine.specs.declared.reporting.Reported.{Reported}
-use Rattle.app_feed.specs.Floats.{floatsOf, bitsOf}
+use Rattle.app_feed.specs.Floats.{floatsOf, bitsOf, allBelow}
 use Rattle.app_feed.specs.Gauge.{gaugeOf}
 use Rattle.app_feed.specs.declared.feeding.Fed.{Fed}
 
--- another count than five is a wrong length, before all else; then the report's codes
+-- another count than five is a wrong length, before all else; then the report's codes; then 9 where a figure is 2^53 or more in size (#104)
 abbrev pub feedRefusals : Tables → ℕ → State → ℕ → List Refusal
-feedRefusals tables i s count = not (eqb count 5) gives wrongLength ∷ reportRefusals tables i s
+feedRefusals tables i s count =
+    not (eqb count 5) gives wrongLength
+    ∷ (reportRefusals tables i s ++ (not (allBelow (figuresAt tables i s)) gives outOfBounds ∷ []))
 
 -- a report as the app takes it; of a refused one, whose figures are zeros, zeros and the empty gauge
 unfoldable pub fedOf : Reported → Fed

@@ -1,13 +1,16 @@
 -- Document 02, #102: the five figures of a report as one record of floats, and the five 64-bit numbers that carry the floats' bits in report order.
 -- A float is a value of IEEE 754's binary64, as the kit's library has it.
 -- Assumes nothing.
-use mathlib.Core.Bool.{not}
+use mathlib.Core.Bool.{Bool, not}
 use mathlib.Core.List.{List, [], _∷_, map}
 use Prim.Native.Nat.{ℕ}
 use lib.Dec.{T}
-use lib.IntN.{ℤ}
+use lib.IntN.{ℤ, pos, negℤ}
 use lib.ListN.{getD}
 use lib.Ieee.{Float, binary64, ofInt, toBits, ofBits, isNan}
+use Rattle.whole.specs.Bounds.{between}
+use Rattle.whole.specs.Marks.{allTrue}
+use Rattle.figures.specs.Limit.{five}
 use Rattle.figures.specs.declared.limit.Figures.{Figures}
 use Rattle.app_feed.specs.declared.floats.Floats.{Floats}
 
@@ -23,6 +26,16 @@ floatsOf f = record {
   discount = float (f .discount);
   limit = float (f .limit);
 }
+
+-- below 2^53 in size, where a float is exactly the whole number; and of all five figures
+abbrev pub mostExact : ℕ
+mostExact = 9007199254740991
+
+abbrev pub isBelow : ℤ → Bool
+isBelow kopecks = between (negℤ (pos mostExact)) kopecks (pos mostExact)
+
+unfoldable pub allBelow : Figures → Bool
+allBelow f = allTrue (map isBelow (five f))
 
 -- the five in report order
 abbrev pub fiveFloats : Floats → List Float

@@ -1,5 +1,6 @@
--- What is shown of the feed, in document 02's words: every figure of a report is below 2^53 in size; each float is exactly the whole number; the gauge is
--- one of three, its share one rounding of one division; and reading what went out gives the same bits. Types, which proofs/Promised proves.
+-- What is shown of the feed, in document 02's words: every figure that is sent is below 2^53 in size; each float is exactly the whole number; the gauge is
+-- one of three, its share one rounding of one division; and reading what went out gives the same bits. Of an account that nobody shares a code with every
+-- figure is below 2^53, so that it is never answered 9. Types, which proofs/Promised proves.
 -- Assumes nothing.
 use mathlib.Core.Path.{_≡_}
 use mathlib.Core.Bool.{true, false, cond}
@@ -13,13 +14,15 @@ use lib.Ieee.{Float, nan, inf, fin, binary64, up, down, fits, round, le}
 use lib.Ieee.Positive.{den}
 use lib.Ieee.Scale.{finite}
 use lib.Ieee.Exact.{HasValue}
-use Rattle.whole.specs.Refusals.{wrongLength}
+use Rattle.whole.specs.Refusals.{wrongLength, outOfBounds}
 use Rattle.rates.specs.Lent.{Tables}
+use Rattle.settlement.specs.Laws.{Unshared}
 use Rattle.figures.specs.Ranges.{Below2^53}
 use Rattle.figures.specs.declared.limit.Figures.{Figures}
 use Rattle.engine.specs.State.{State}
 use Rattle.engine.specs.Report.{reportOf, noFigures}
-use Rattle.app_feed.specs.Floats.{float, bitsOf}
+use Rattle.engine.specs.declared.reporting.Reported.{Reported}
+use Rattle.app_feed.specs.Floats.{float, bitsOf, allBelow}
 use Rattle.app_feed.specs.Gauge.{used}
 use Rattle.app_feed.specs.Feed.{sentOf}
 use Rattle.app_feed.specs.Received.{receivedOf}
@@ -27,9 +30,17 @@ use Rattle.app_feed.specs.declared.floats.Floats.{Floats}
 use Rattle.app_feed.specs.declared.gauge.Gauge.{Gauge}
 use Rattle.app_feed.specs.declared.gauge.Gauge.the-variants.{Empty, Over, Used}
 
--- ---- "All of them are below 2^53 in size; show it."
+-- ---- "All of them are below 2^53 in size; show it": of an account alone; of a code the test says so (#104)
 abbrev pub ReportsBelow : Type 0
-ReportsBelow = (tables : Tables) (i : ℕ) (s : State) → reportOf tables i s .code ≡ 0 → Below2^53 (reportOf tables i s .figures)
+ReportsBelow = (tables : Tables) (i : ℕ) (s : State) → Unshared (s .book) i → reportOf tables i s .code ≡ 0 → Below2^53 (reportOf tables i s .figures)
+
+pub record BelowTested (f : Figures) : Type 0 where
+  pub passes : Below2^53 f → allBelow f ≡ true
+  pub only : allBelow f ≡ true → Below2^53 f
+
+-- a report's code, and 9 where it is 0 and a figure is 2^53 or more in size
+abbrev pub sentCode : Reported → ℕ
+sentCode r = cond (eqb (r .code) 0) (cond (allBelow (r .figures)) 0 outOfBounds) (r .code)
 
 -- ---- "each exactly the whole number": finite, of that sign and of that size, and zero is +0.0
 abbrev pub IsExactly : Float → ℤ → Type 0
@@ -76,6 +87,7 @@ Gauges f (Used share) = (pos 0 <ℤ f .valuation) × (pos 0 ≤ℤ f .limit) × 
 module _ (tables : Tables) (i : ℕ) (s : State) (bits : List ℕ) where
   pub record Feeds : Type 0 where
     pub reported : reportOf tables i s .code ≡ 0
+    pub below : Below2^53 (reportOf tables i s .figures)
     pub exactly : AreExactly (sentOf tables i s bits .fed .figures) (reportOf tables i s .figures)
     pub gauges : Gauges (reportOf tables i s .figures) (sentOf tables i s bits .fed .gauge)
     pub writes : sentOf tables i s bits .bits ≡ bitsOf (sentOf tables i s bits .fed .figures)
@@ -88,6 +100,8 @@ module _ (tables : Tables) (i : ℕ) (s : State) (bits : List ℕ) where
 
 pub record Promised : Type 0 where
   pub codes : (tables : Tables) (i : ℕ) (s : State) (bits : List ℕ)
+      → sentOf tables i s bits .fed .code ≡ cond (eqb (length bits) 5) (sentCode (reportOf tables i s)) wrongLength
+  pub alone : (tables : Tables) (i : ℕ) (s : State) (bits : List ℕ) → Unshared (s .book) i
       → sentOf tables i s bits .fed .code ≡ cond (eqb (length bits) 5) (reportOf tables i s .code) wrongLength
   pub feeds : (tables : Tables) (i : ℕ) (s : State) (bits : List ℕ) → sentOf tables i s bits .fed .code ≡ 0 → Feeds tables i s bits
   pub refuses : (tables : Tables) (i : ℕ) (s : State) (bits : List ℕ) → (sentOf tables i s bits .fed .code ≡ 0 → ⊥) → Refuses tables i s bits

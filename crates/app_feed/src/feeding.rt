@@ -30,8 +30,8 @@ fn refused(code: u8) -> Fed
     }
 }
 
-// Feed an account's report to the app; unless refused, the floats' bits go to the five lent numbers. That every figure is below 2^53 is proved,
-// not tested.
+// Feed an account's report to the app; unless refused, the floats' bits go to the five lent numbers. The figures of one block are always below 2^53
+// in size; those of a settlement code need not be, so they are looked at.
 pub fn feed<'a>(
     book: &[i64],
     clearing: &'a [i64],
@@ -51,6 +51,9 @@ pub fn feed<'a>(
         return refused(code);
     }
     let found = reported.figures;
+    if !floats::all_below(found) {
+        return refused(codes::OUT_OF_BOUNDS);
+    }
     let figures = floats::floats_of(found);
     floats::put_bits(figures, bits);
     Fed {

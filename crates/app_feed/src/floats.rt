@@ -4,7 +4,7 @@ ghost use lib.IntN.{natAbs};
 ghost use lib.ListN.{length};
 ghost use Rattle.figures.specs.Ranges.{Below2^53};
 ghost use Rattle.engine.specs.Report.{noFigures};
-ghost use Rattle.app_feed.specs.Floats.{float, floatsOf, bitsOf, AllHaveBits};
+ghost use Rattle.app_feed.specs.Floats.{float, floatsOf, bitsOf, isBelow, allBelow, AllHaveBits};
 
 // The five figures as floats, and their bits.
 
@@ -19,6 +19,27 @@ pub struct Floats {
 
 // Numbers that carry a record's bits.
 pub(crate) const COUNT: usize = 5;
+
+// The greatest number below 2^53.
+const MOST_EXACT: i64 = 9007199254740991;
+
+// Whether a figure is below 2^53 in size.
+fn is_below(kopecks: i64) -> bool
+    ensures { λ r. ⌜ r ≡ isBelow kopecks ⌝ }
+{
+    whole::lies_between(-MOST_EXACT, kopecks, MOST_EXACT)
+}
+
+// Whether all five are.
+pub(crate) fn all_below(f: figures::Figures) -> bool
+    ensures { λ r. ⌜ r ≡ allBelow f ⌝ }
+{
+    is_below(f.valuation)
+        & is_below(f.market)
+        & is_below(f.interest)
+        & is_below(f.discount)
+        & is_below(f.limit)
+}
 
 // One figure: the cast loses nothing.
 pub(crate) fn exact(kopecks: i64) -> f64

@@ -38,7 +38,7 @@ mostUnits = 1000000
 abbrev pub accountKind : List ℤ → ℤ
 accountKind block = number block 0
 
--- number 13: 0 (document 01); #104 will hold an account's settlement code there
+-- the settlement code (#104, clause 4.11): 0 none, 1 to 15 shared by the blocks that have it
 abbrev pub settlementCode : List ℤ → ℤ
 settlementCode block = number block 13
 

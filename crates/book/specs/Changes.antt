@@ -13,8 +13,9 @@ use Rattle.book.specs.Block.{mostRubles, mostUnits, rubles, rubleNetAt, 
 use Rattle.book.specs.Rules.{inBounds}
 use Rattle.book.specs.declared.changes.Trade.{Trade}
 
-unfoldable pub opened : List ℤ → ℤ → List ℤ
-opened block kind = set block 0 kind
+-- a block opened as a kind of account on a settlement code; with 0 and 0 an empty block that was opened is closed again
+unfoldable pub opened : List ℤ → ℤ → ℤ → List ℤ
+opened block kind code = set (set block 0 kind) 13 code
 
 -- numbers with an amount added to number k
 unfoldable pub added : List ℤ → ℕ → ℤ → List ℤ

@@ -1,5 +1,5 @@
--- Document 01, "Block": the block rules in two parts. The head is number 0 and numbers 10 to 15; the bounds are those of the rubles and of the
--- holdings, which trades and moves must keep (code 9). A block that isn't open is all zero.
+-- Document 01, "Block": the block rules in two parts. The head is number 0 and numbers 10 to 15, of which #104 takes 13; the bounds are those of the
+-- rubles and of the holdings, which trades and moves must keep (code 9). A block that isn't open is all zero.
 -- Assumes nothing.
 use mathlib.Core.Bool.{Bool, cond, _&&_, _||_}
 use mathlib.Core.List.{List, [], _∷_, map}
@@ -11,7 +11,7 @@ use Rattle.whole.specs.Parts.{number}
 use Rattle.whole.specs.Marks.{allTrue, allZero, every}
 use Rattle.rates.specs.Units.{assets}
 use Rattle.rates.specs.Tables.{listed}
-use Rattle.book.specs.Block.{mostRubles, mostUnits, accountKind, rubleNumbers, holdingOf, collateral}
+use Rattle.book.specs.Block.{mostRubles, mostUnits, accountKind, settlementCode, rubleNumbers, holdingOf, collateral}
 
 -- ±10^14 for rubles, ±10^6 for collateral, 0 to 10^6 for claims and obligations
 abbrev pub rublesRight : ℤ → Bool
@@ -27,14 +27,18 @@ quantityRight x = between (pos 0) x (pos mostUnits)
 abbrev pub kindRight : ℤ → Bool
 kindRight kind = between (pos 1) kind (pos 3)
 
--- the head: an account kind, and nothing at 10 to 15
+-- a settlement code, or 0 for none
+abbrev pub settlementCodeRight : ℤ → Bool
+settlementCodeRight code = between (pos 0) code (pos 15)
+
+-- the head: an account kind, a settlement code, and nothing else at 10 to 15
 unfoldable pub headMarks : List ℤ → List Bool
 headMarks block =
     kindRight (accountKind block)
     ∷ isZero (number block 10)
     ∷ isZero (number block 11)
     ∷ isZero (number block 12)
-    ∷ isZero (number block 13)
+    ∷ settlementCodeRight (settlementCode block)
     ∷ isZero (number block 14)
     ∷ isZero (number block 15)
     ∷ []

@@ -20,12 +20,12 @@ pub fn block_of<'a>(book: &'a [i64], i: usize) -> &'a [i64]
     &book[LENGTH * i..LENGTH * (i + 1)]
 }
 
-// Open it.
-pub fn open_in(book: &mut [i64], i: usize, kind: i64)
+// Open it on a settlement code; kind 0 and code 0 take the opening of an empty block back.
+pub fn open_in(book: &mut [i64], i: usize, kind: i64, code: i64)
     requires { ⌜ InBook (now book) i ⌝ }
-    ensures { λ _. ⌜ now (book .exit) ≡ atAccount (now (book .entry)) i (λ b. opened b kind) ⌝ }
+    ensures { λ _. ⌜ now (book .exit) ≡ atAccount (now (book .entry)) i (λ b. opened b kind code) ⌝ }
 {
-    changes::open(&mut book[LENGTH * i..LENGTH * (i + 1)], kind);
+    changes::open(&mut book[LENGTH * i..LENGTH * (i + 1)], kind, code);
 }
 
 // Move collateral of it; the same with the amount turned round takes the move back.

@@ -24,12 +24,13 @@ pub struct Trade {
     pub money: i64,
 }
 
-// Open a block.
-pub(crate) fn open(block: &mut [i64], kind: i64)
+// Open a block on a settlement code.
+pub(crate) fn open(block: &mut [i64], kind: i64, code: i64)
     requires { ⌜ length (now block) ≡ blockLength ⌝ }
-    ensures { λ _. ⌜ now (block .exit) ≡ opened (now (block .entry)) kind ⌝ }
+    ensures { λ _. ⌜ now (block .exit) ≡ opened (now (block .entry)) kind code ⌝ }
 {
     block[in_block::ACCOUNT_KIND] = kind;
+    block[in_block::SETTLEMENT_CODE] = code;
 }
 
 // Whether number k with an amount added lies from low to high.

@@ -12,7 +12,7 @@ pub const LENGTH: usize = HOLDINGS + HOLDING_LENGTH * units::ASSET_COUNT;
 
 pub const BOOK_LENGTH: usize = LENGTH * ACCOUNTS;
 
-// In a block: the account's kind, then ruble collateral with the eight ruble nets behind it, up to RUBLES_END.
+// In a block: the account's kind, ruble collateral with the eight ruble nets behind it, up to RUBLES_END, and the settlement code.
 pub const ACCOUNT_KIND: usize = 0;
 
 pub const RUBLE_COLLATERAL: usize = 1;
@@ -40,6 +40,9 @@ pub const RUBLES: usize = 255;
 pub const FIRST_KIND: i64 = 1;
 
 pub const LAST_KIND: i64 = 3;
+
+// The settlement codes are 1 up to this one; 0 is none.
+pub const LAST_SETTLEMENT_CODE: i64 = 15;
 
 // Bounds: of rubles, and of units of an asset.
 pub const MOST_RUBLES: i64 = 100000000000000;

@@ -73,7 +73,7 @@ fn in_bounds(block: &[i64]) -> bool
     holdings_right(block)
 }
 
-// Whether the head of an open block is right: number 0, and nothing at 10 to 15.
+// Whether the head of an open block is right: its kind, its settlement code, and nothing else at 10 to 15.
 fn head_right(block: &[i64]) -> bool
     requires { ⌜ length (now block) ≡ blockLength ⌝ }
     ensures { λ r. ⌜ r ≡ allTrue (headMarks (now (block .entry))) ⌝ }
@@ -87,7 +87,12 @@ fn head_right(block: &[i64]) -> bool
         & whole::number_is(block, 10, 0)
         & whole::number_is(block, 11, 0)
         & whole::number_is(block, 12, 0)
-        & whole::number_is(block, 13, 0)
+        & whole::number_between(
+            block,
+            in_block::SETTLEMENT_CODE,
+            0,
+            in_block::LAST_SETTLEMENT_CODE,
+        )
         & whole::number_is(block, 14, 0)
         & whole::number_is(block, 15, 0)
 }

@@ -12,10 +12,10 @@ use Rattle.whole.proofs.Tests.{and-left, and-right, both, denied}
 use Rattle.rates.specs.Tables.{lengthsRight, tableRefusals, checkCode}
 use Rattle.rates.specs.Ranges.{TableRanges}
 use Rattle.rates.proofs.Sound.{ranges}
-use Rattle.book.specs.Rules.{goodBlock, holdsListed}
 use Rattle.book.specs.AtAccount.{InBook}
+use Rattle.settlement.specs.Code.{codeRight, codeHoldsListed}
 use Rattle.rates.specs.Lent.{Tables}
-use Rattle.engine.specs.State.{State, blockAt}
+use Rattle.engine.specs.State.{State}
 use Rattle.engine.specs.Refused.{bookGate, tableGate, holdingRefusals, reportRefusals}
 use Rattle.engine.specs.Ranges.{Judgeable}
 
@@ -70,7 +70,7 @@ pub record ReportPassed (tables : Tables) (i : ℕ) (s : State) : Type 0 where
   pub gate-0 : firstCode (tableGate tables i s) ≡ 0
   pub gate : TablePassed tables i s
   pub judgeable : Judgeable tables i s
-  pub listed : holdsListed (blockAt s i) (tables .clearing) ≡ true
+  pub listed : codeHoldsListed (s .book) i (tables .clearing) ≡ true
 
 pub report-passed : (tables : Tables) (i : ℕ) (s : State) → firstCode (reportRefusals tables i s) ≡ 0 → ReportPassed tables i s
 report-passed tables i s e =
@@ -78,25 +78,25 @@ report-passed tables i s e =
     let held = holdingRefusals (tables .clearing) i s in
     let g = table-passed tables i s (first-zero gate held e) in
     let off = none-holds held tt (second-zero gate held tt e) in
-    let block = blockAt s i in
-    let good-and-listed = not-false (goodBlock block && holdsListed block (tables .clearing)) (off 0) in
+    let right = codeRight (s .book) i in
+    let listed = codeHoldsListed (s .book) i (tables .clearing) in
+    let six = not-false (right && listed) (off 0) in
     record {
       gate-0 = first-zero gate held e;
       gate = g;
       judgeable = record {
         there = g .there;
-        good = and-left (goodBlock block) (holdsListed block (tables .clearing)) good-and-listed;
+        right = and-left right listed six;
         is-open = off 1;
         sound = g .sound;
       };
-      listed = and-right (goodBlock block) (holdsListed block (tables .clearing)) good-and-listed;
+      listed = and-right right listed six;
     }
 
--- a state with a book of the same length, whose account may be judged and holds listed assets only, answers 0 too
+-- a state with a book of the same length, whose account may be judged and whose code holds listed assets only, answers 0 too
 pub report-answers : (tables : Tables) (i : ℕ) (s other : State) → firstCode (tableGate tables i s) ≡ 0 → length (other .book) ≡ length (s .book)
-    → Judgeable tables i other → holdsListed (blockAt other i) (tables .clearing) ≡ true
+    → Judgeable tables i other → codeHoldsListed (other .book) i (tables .clearing) ≡ true
     → firstCode (reportRefusals tables i other) ≡ 0
 report-answers tables i s other gate long j listed =
-    let block = blockAt other i in
     goes-on (tableGate tables i other) (holdingRefusals (tables .clearing) i other) tt (rw long gate)
-    ∙ sym (code (miss (denied (both (goodBlock block) (holdsListed block (tables .clearing)) (j .good) listed)) (miss (j .is-open) none)))
+    ∙ sym (code (miss (denied (both (codeRight (other .book) i) (codeHoldsListed (other .book) i (tables .clearing)) (j .right) listed)) (miss (j .is-open) none)))

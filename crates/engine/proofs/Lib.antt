@@ -5,4 +5,5 @@ pub mod Outcomes
 pub mod Grounds
 pub mod Passed
 pub mod Judged
+pub mod Valued
 pub mod Reports

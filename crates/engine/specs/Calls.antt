@@ -12,7 +12,7 @@ use Rattle.book.specs.Roll.{rolled}
 use Rattle.book.specs.declared.changes.Trade.{Trade}
 use Rattle.book.specs.declared.terms.Terms.{Terms}
 use Rattle.engine.specs.State.{State, left, changedAt}
-use Rattle.engine.specs.Refused.{openRefusals, rollRefusals, moveStands, moveJudged, orderStands, orderJudged, notRaised}
+use Rattle.engine.specs.Refused.{openStands, openJudged, rollRefusals, moveStands, moveJudged, orderStands, orderJudged, notRaised}
 
 -- ---- any call
 pub record Call : Type 0 where
@@ -43,8 +43,12 @@ abbrev pub _before_ : (State → List Refusal) → Call → Call
 first before call = record { refusals = λ s. first s ++ call .refusals s; change = call .change }
 
 -- ---- the calls
-unfoldable pub opening : ℕ → ℤ → Call
-opening i kind = openRefusals i kind before changing i (λ b. opened b kind)
+-- an open of an empty block: its code is asked of the state with it opened
+unfoldable pub judgedOpening : ℕ → ℤ → ℤ → Call
+judgedOpening i kind code = openJudged i kind code before changing i (λ b. opened b kind code)
+
+unfoldable pub opening : ℕ → ℤ → ℤ → Call
+opening i kind code = openStands i before judgedOpening i kind code
 
 unfoldable pub rolling : ℕ → Call
 rolling i = rollRefusals i before changing i rolled

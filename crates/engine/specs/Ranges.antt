@@ -5,20 +5,27 @@ use mathlib.Core.Bool.{true, false}
 use Prim.Native.Nat.{ℕ}
 use lib.IntN.{ℤ}
 use Rattle.whole.specs.Bounds.{isZero}
+use Rattle.whole.specs.Marks.{allZero}
 use Rattle.rates.specs.Lent.{Tables}
 use Rattle.rates.specs.Ranges.{TableRanges}
 use Rattle.book.specs.Block.{accountKind}
-use Rattle.book.specs.Rules.{goodBlock, inBounds}
+use Rattle.book.specs.Rules.{inBounds}
 use Rattle.book.specs.Changes.{traded, moveOut}
 use Rattle.book.specs.Ranges.{Tradable, Movable}
 use Rattle.book.specs.AtAccount.{InBook}
 use Rattle.book.specs.declared.changes.Trade.{Trade}
+use Rattle.settlement.specs.Code.{codeRight}
 use Rattle.engine.specs.State.{State, blockAt}
 
--- an account that may be judged: it is in the book, open and by the rules, and the tables are sound
+-- a block that may be opened: it is in the book and empty
+pub record Openable (i : ℕ) (s : State) : Type 0 where
+  pub there : InBook (s .book) i
+  pub empty : allZero (blockAt s i) ≡ true
+
+-- an account that may be judged: it is in the book and open, its code is right, and the tables are sound
 pub record Judgeable (tables : Tables) (i : ℕ) (s : State) : Type 0 where
   pub there : InBook (s .book) i
-  pub good : goodBlock (blockAt s i) ≡ true
+  pub right : codeRight (s .book) i ≡ true
   pub is-open : isZero (accountKind (blockAt s i)) ≡ false
   pub sound : TableRanges tables
 

@@ -1,5 +1,6 @@
 -- Document 01, "Calls and turning away": the grounds on which a call is turned away, as lists in the table's order. A new code, or a new ground, is
--- one line in one of these lists. A list is of a state and of an account's place in the book, or of the call's own numbers.
+-- one line in one of these lists. A list is of a state and of an account's place in the book, or of the call's own numbers. Codes 6 and 10 look at every
+-- block of the account's settlement code (#104); 4, 5 and 9 at its own.
 -- Assumes nothing.
 use mathlib.Core.Bool.{Bool, cond, not, _&&_, _||_}
 use mathlib.Core.List.{List, [], _∷_, _++_}
@@ -13,14 +14,16 @@ use Rattle.whole.specs.Marks.{allZero}
 use Rattle.whole.specs.Refusals.{Refusal, _gives_, wrongLength, noAccount, brokenBlock, notOpen, alreadyOpen, wrongChoice, wrongAmount, outOfBounds, negativeLimit}
 use Rattle.rates.specs.Lent.{Tables}
 use Rattle.rates.specs.Tables.{lengthsRight, tableRefusals, listed}
-use Rattle.book.specs.Block.{accounts, bookLength, accountKind}
-use Rattle.book.specs.Rules.{kindRight, goodBlock, holdsListed}
+use Rattle.book.specs.Block.{accounts, bookLength, blockOf, accountKind}
+use Rattle.book.specs.Rules.{kindRight}
+use Rattle.book.specs.Members.{kindAt}
 use Rattle.book.specs.Choices.{assetRight, choiceRight, amountsRight, isRubles, moveAmountRight, tradeOf}
-use Rattle.book.specs.Changes.{traded, tradeOut, moved, moveOut}
+use Rattle.book.specs.Changes.{opened, traded, tradeOut, moved, moveOut}
 use Rattle.book.specs.Roll.{rollOut}
 use Rattle.book.specs.declared.changes.Trade.{Trade}
 use Rattle.book.specs.declared.terms.Terms.{Terms}
-use Rattle.figures.specs.Limit.{blockFigures}
+use Rattle.settlement.specs.Code.{onCode, codeRight, codeHoldsListed}
+use Rattle.figures.specs.Joint.{figuresOn}
 use Rattle.figures.specs.declared.limit.Figures.{Figures}
 use Rattle.engine.specs.State.{State, blockAt, changedAt}
 
@@ -45,14 +48,14 @@ tableGate tables i s =
 -- ---- codes 6 and 4
 abbrev pub blockRefusals : ℕ → State → List Refusal
 blockRefusals i s =
-    not (goodBlock (blockAt s i)) gives brokenBlock
+    not (codeRight (s .book) i) gives brokenBlock
     ∷ isZero (accountKind (blockAt s i)) gives notOpen
     ∷ []
 
--- where tables are lent, a holding in an unlisted asset is 6 too
+-- where tables are lent, a holding in an unlisted asset is 6 too, in any block of the code
 abbrev pub holdingRefusals : List ℤ → ℕ → State → List Refusal
 holdingRefusals clearing i s =
-    not (goodBlock (blockAt s i) && holdsListed (blockAt s i) clearing) gives brokenBlock
+    not (codeRight (s .book) i && codeHoldsListed (s .book) i clearing) gives brokenBlock
     ∷ isZero (accountKind (blockAt s i)) gives notOpen
     ∷ []
 
@@ -87,9 +90,9 @@ moveStands tables i asset amount s =
     reportRefusals tables i s ++ (moveChecks (tables .clearing) asset amount ++ (moveOut (blockAt s i) (natAbs asset) amount gives outOfBounds ∷ []))
 
 -- ---- code 10
--- an account's figures and its Single Limit
+-- an account's figures are those of its code (clause 4.11), and so is its Single Limit
 abbrev pub figuresAt : Tables → ℕ → State → Figures
-figuresAt tables i s = blockFigures (blockAt s i) tables
+figuresAt tables i s = figuresOn (onCode (s .book) i) (kindAt (s .book) i) (blockOf (s .book)) tables
 
 abbrev pub limitOf : Tables → ℕ → State → ℤ
 limitOf tables i s = figuresAt tables i s .limit
@@ -123,13 +126,18 @@ moveJudged tables i asset amount s =
 
 -- ---- open and roll, which are lent the book alone
 -- open's own words: all zero goes on to 7; a first number of 1 to 3 gives 5; else 6
-abbrev pub openRefusals : ℕ → ℤ → State → List Refusal
-openRefusals i kind s =
+abbrev pub openStands : ℕ → State → List Refusal
+openStands i s =
     bookGate i s
     ++ (not (allZero (blockAt s i) || kindRight (accountKind (blockAt s i))) gives brokenBlock
     ∷ kindRight (accountKind (blockAt s i)) gives alreadyOpen
-    ∷ not (kindRight kind) gives wrongChoice
     ∷ [])
+
+-- kind and code together, #104: "7 where the new block would meet that", so 6 without tables is asked of the book with the block opened
+abbrev pub openJudged : ℕ → ℤ → ℤ → State → List Refusal
+openJudged i kind code s =
+    not (kindRight kind && codeRight (changedAt i (λ b. opened b kind code) s .book) i) gives wrongChoice
+    ∷ []
 
 abbrev pub rollRefusals : ℕ → State → List Refusal
 rollRefusals i s = bookGate i s ++ (blockRefusals i s ++ (rollOut (blockAt s i) gives outOfBounds ∷ []))

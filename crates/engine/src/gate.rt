@@ -10,7 +10,7 @@ ghost use Rattle.engine.specs.Ranges.{Judgeable};
 use book::in_block;
 use whole::codes;
 
-// What the calls begin with: codes 1, 2, 13, 3, then 6 and 4 of the account's block.
+// What the calls begin with: codes 1, 2, 13, 3, then 6 of the account's settlement code and 4 of its block; and the figures of its code.
 
 const LAST_ACCOUNT: i64 = 15;
 
@@ -60,11 +60,10 @@ pub(crate) fn block_code(book: &[i64], i: usize) -> u8
     requires { ⌜ InBook (now book) i ⌝ }
     ensures { λ r. ⌜ r ≡ firstCode (blockRefusals i (found book)) ⌝ }
 {
-    let block = book::block_of(book, i);
-    if !book::block_right(block) {
+    if !settlement::code_right(book, i) {
         return codes::BROKEN_BLOCK;
     }
-    if whole::number_is(block, in_block::ACCOUNT_KIND, 0) {
+    if whole::number_is(book::block_of(book, i), in_block::ACCOUNT_KIND, 0) {
         return codes::NOT_OPEN;
     }
     codes::DONE
@@ -75,14 +74,13 @@ fn holding_code(book: &[i64], clearing: &[i64], i: usize) -> u8
     requires { ⌜ InBook (now book) i ⌝ }
     ensures { λ r. ⌜ r ≡ firstCode (holdingRefusals (now (clearing .entry)) i (found book)) ⌝ }
 {
-    let block = book::block_of(book, i);
-    if !book::block_right(block) {
+    if !settlement::code_right(book, i) {
         return codes::BROKEN_BLOCK;
     }
-    if !book::holds_listed(block, clearing) {
+    if !settlement::code_holds_listed(book, i, clearing) {
         return codes::BROKEN_BLOCK;
     }
-    if whole::number_is(block, in_block::ACCOUNT_KIND, 0) {
+    if whole::number_is(book::block_of(book, i), in_block::ACCOUNT_KIND, 0) {
         return codes::NOT_OPEN;
     }
     codes::DONE
@@ -105,7 +103,7 @@ pub(crate) fn report_code(
     holding_code(book, clearing, i)
 }
 
-// The figures of an account that may be judged: no other block is valued with its own (#104 will list the blocks of its code).
+// The figures of an account that may be judged: those of every block of its code together.
 pub(crate) fn figures_at<'a>(
     book: &[i64],
     clearing: &'a [i64],
@@ -116,7 +114,7 @@ pub(crate) fn figures_at<'a>(
     requires { ⌜ Judgeable (lent clearing own groups) i (state book) ⌝ }
     ensures { λ r. ⌜ r ≡ figuresAt (given clearing own groups) i (found book) ⌝ }
 {
-    let members = book::alone(book, i);
+    let members = settlement::members_of(book, i);
     figures::joint_figures(book, members, clearing, own, groups)
 }
 

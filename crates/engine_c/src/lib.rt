@@ -43,12 +43,12 @@ pub extern "C" fn single_limit_covers<'a>(clearing: &'a [i64], own: &'a [i64], a
     1
 }
 
-// Open an account.
+// Open an account, on a settlement code or on none.
 #[no_mangle]
-pub extern "C" fn single_limit_open(book: &mut [i64], account: i64, kind: i64) -> u8
-    ensures { λ r. ⌜ answer r book ≡ outcomeOf (opening (placeOf account) kind) (found book) ⌝ }
+pub extern "C" fn single_limit_open(book: &mut [i64], account: i64, kind: i64, code: i64) -> u8
+    ensures { λ r. ⌜ answer r book ≡ outcomeOf (opening (placeOf account) kind code) (found book) ⌝ }
 {
-    engine::open(book, account, kind)
+    engine::open(book, account, kind, code)
 }
 
 // Move collateral.

@@ -15,6 +15,7 @@ use lib.Signed.{_≤ℤ_}
 use Rattle.whole.specs.Bounds.{equal}
 use Rattle.whole.specs.Sums.{Σ<, Σ<on}
 use Rattle.whole.specs.Parts.{number}
+use Rattle.whole.proofs.Bounds.{not-equal}
 use Rattle.whole.proofs.Expressions.{var, _⊕_, _⊖_, le!, eq!, eq?}
 use Rattle.whole.proofs.Sums.{sum-one}
 use Rattle.whole.proofs.SumsOn.{CountsOnce, on-counts}
@@ -117,7 +118,7 @@ module _ (n : ℕ) (sum : (ℕ → ℤ) → ℤ) (j : ℕ) (counts : CountsOnce 
         rubles-grow (pos 0)
         (ap rublesOf here ∙ ap (λ (x : List ℤ). Σ< 9 (number x)) (moved-rubles-other (blocks j) a amount l) ∙ sym (+ℤ-idr (rublesOf (blocks j)))) ∙ +ℤ-idr _
 
-    pub asset-not-lower : jointFigures sum kind blocks tables .limit ≤ℤ jointFigures sum kind blocks′ tables .limit
+    asset-not-lower : jointFigures sum kind blocks tables .limit ≤ℤ jointFigures sum kind blocks′ tables .limit
     unfolding jointFigures
     asset-not-lower =
         rw rubles-stay
@@ -125,7 +126,7 @@ module _ (n : ℕ) (sum : (ℕ → ℤ) → ℤ) (j : ℕ) (counts : CountsOnce 
         (λ b q apart. part-stays b (ap (λ (x : List ℤ). holdingOf x b) here ∙ moved-holding-other (blocks j) a amount (inl l) b apart)) own-better
         (tables .groups) (percent-ranges t) (sum (λ k. rublesOf (blocks k))))
 
-  pub rubles-higher : blocks′ j ≡ moved (blocks j) rubles amount
+  rubles-higher : blocks′ j ≡ moved (blocks j) rubles amount
       → jointFigures sum kind blocks′ tables .limit ≡ jointFigures sum kind blocks tables .limit +ℤ amount
   unfolding jointFigures
   rubles-higher here =
@@ -136,8 +137,9 @@ module _ (n : ℕ) (sum : (ℕ → ℤ) → ℤ) (j : ℕ) (counts : CountsOnce 
 
 -- ---- of the accounts that count
 pub never-lower : NeverLower
-never-lower on j l here a q amount from-zero blocks blocks′ m kind tables t cover whole =
-    asset-not-lower 16 (Σ<on 16 on) j (on-counts 16 j on l here) kind tables blocks blocks′ (m .others) (m .sized) amount a q (m .here) t from-zero cover whole
+never-lower on j l here a amount from-zero blocks blocks′ m kind tables t c =
+    asset-not-lower 16 (Σ<on 16 on) j (on-counts 16 j on l here) kind tables blocks blocks′ (m .others) (m .sized) amount a (c .an-asset) (m .here) t
+    from-zero (c .passes) (not-equal (c .not-partial))
 
 pub rubles-raise : RublesRaise
 rubles-raise on j l here amount blocks blocks′ m kind tables =

@@ -4,4 +4,3 @@ pub mod SeveralBlocks
 pub mod Below
 pub mod Better
 pub mod JointDeposit
-pub mod BlockDeposit

@@ -1,7 +1,7 @@
 -- What is shown of the figures of several blocks (clause 4.11, demand 3), for any test `on` of which accounts count. proofs/ proves each.
 -- Assumes nothing.
 use mathlib.Core.Path.{_≡_}
-use mathlib.Core.Bool.{Bool, true, false}
+use mathlib.Core.Bool.{Bool, true}
 use mathlib.Core.List.{List}
 use mathlib.Core.Logic.{_≢_}
 use Prim.Native.Nat.{ℕ, _<_}
@@ -9,7 +9,6 @@ use lib.Dec.{eqb}
 use lib.IntN.{ℤ, pos, natAbs, _+ℤ_}
 use lib.ListN.{length}
 use lib.Signed.{_≤ℤ_}
-use Rattle.whole.specs.Bounds.{equal}
 use Rattle.rates.specs.Units.{assets}
 use Rattle.rates.specs.Lent.{Tables}
 use Rattle.rates.specs.Row.{coveredSales}
@@ -37,12 +36,16 @@ pub record MovedIn (j asset : ℕ) (amount : ℤ) (blocks blocks′ : ℕ → Li
   pub here : blocks′ j ≡ moved (blocks j) asset amount
   pub others : (k : ℕ) → k < accounts → k ≢ j → blocks′ k ≡ blocks k
 
--- demand 3's heart: more collateral in the block of one that counts never lowers the limit of all, of an asset whose row in force passes the cover test
--- and isn't marked partial
+-- demand 3's condition on an asset: its row in force passes the cover test and is not marked 2 (partial)
+pub record Covered (tables : Tables) (asset : ℕ) : Type 0 where
+  pub an-asset : asset < assets
+  pub passes : coverTest (inForce (tables .clearing) (tables .own) asset) ≡ true
+  pub not-partial : coveredSales (inForce (tables .clearing) (tables .own) asset) ≢ pos 2
+
+-- demand 3's heart: more collateral of such an asset in the block of one that counts never lowers the limit of all
 abbrev pub NeverLower : Type 0
-NeverLower = (on : ℕ → Bool) (j : ℕ) → j < accounts → on j ≡ true → (a : ℕ) → a < assets → (amount : ℤ) → pos 0 ≤ℤ amount → (blocks blocks′ : ℕ → List ℤ)
-    → MovedIn j a amount blocks blocks′ → (kind : ℕ) (tables : Tables) → TableRanges tables → coverTest (inForce (tables .clearing) (tables .own) a) ≡ true
-    → equal (coveredSales (inForce (tables .clearing) (tables .own) a)) (pos 2) ≡ false
+NeverLower = (on : ℕ → Bool) (j : ℕ) → j < accounts → on j ≡ true → (a : ℕ) (amount : ℤ) → pos 0 ≤ℤ amount → (blocks blocks′ : ℕ → List ℤ)
+    → MovedIn j a amount blocks blocks′ → (kind : ℕ) (tables : Tables) → TableRanges tables → Covered tables a
     → figuresOn on kind blocks tables .limit ≤ℤ figuresOn on kind blocks′ tables .limit
 
 -- and rubles raise it by exactly the sum

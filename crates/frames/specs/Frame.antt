@@ -31,11 +31,11 @@ orderNumbers bytes = record {
   money = n8At bytes 13;
 }
 
--- 01 place (2 bytes) n8. 02 account, kind. 03 a move. 04 an order. 05 account. 06 account
+-- 01 place (2 bytes) n8. 02 account, kind, settlement code (document 02, #104). 03 a move. 04 an order. 05 account. 06 account
 unfoldable pub frameOf : List ℕ → Frame
 frameOf bytes =
     cond (shaped 11 1 bytes) (Parameter (two bytes 1) (n8At bytes 3))
-    (cond (shaped 3 2 bytes) (Open (byte bytes 1) (byte bytes 2))
+    (cond (shaped 4 2 bytes) (Open (byte bytes 1) (byte bytes 2) (byte bytes 3))
     (cond (shaped 11 3 bytes) (Move (moveNumbers bytes))
     (cond (shaped 21 4 bytes) (Order (orderNumbers bytes))
     (cond (shaped 2 5 bytes) (Roll (byte bytes 1))

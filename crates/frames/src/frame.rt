@@ -25,7 +25,7 @@ pub struct OrderNumbers {
 
 pub enum Frame {
     Parameter { place: usize, number: i64 },
-    Open { account: u8, kind: u8 },
+    Open { account: u8, kind: u8, code: u8 },
     Move(MoveNumbers),
     Order(OrderNumbers),
     Roll { account: u8 },
@@ -84,6 +84,7 @@ fn read_frame(bytes: &[u8]) -> Frame
         return Frame::Open {
             account: bytes[in_frame::ACCOUNT],
             kind: bytes[in_frame::ACCOUNT_KIND],
+            code: bytes[in_frame::SETTLEMENT_CODE],
         };
     }
     if is_shaped(bytes, in_frame::MOVE_LENGTH, in_frame::MOVE_KIND) {

@@ -17,12 +17,14 @@ pub(crate) const NUMBER: usize = 3;
 
 pub(crate) const PARAMETER_LENGTH: usize = NUMBER + N8;
 
-// 02: account and its kind.
+// 02: account, its kind and its settlement code.
 pub(crate) const OPEN_KIND: u8 = 2;
 
 pub(crate) const ACCOUNT_KIND: usize = 2;
 
-pub(crate) const OPEN_LENGTH: usize = 3;
+pub(crate) const SETTLEMENT_CODE: usize = 3;
+
+pub(crate) const OPEN_LENGTH: usize = 4;
 
 // 03: account, asset and amount. An order has its asset there too.
 pub(crate) const MOVE_KIND: u8 = 3;

@@ -2,7 +2,6 @@
 use mathlib.Core.Path.{_≡_, refl, sym, ap, ap₂, _∙_}
 use mathlib.Core.Bool.{Bool, true, false, not}
 use mathlib.Core.Logic.{inl, inr, ⊎-elim}
-use mathlib.Core.List.{List}
 use Prim.Native.Nat.{ℕ}
 use native.Mathlib.Omega.{arith}
 use lib.IntN.{ℤ, pos}
@@ -12,19 +11,20 @@ use Rattle.whole.proofs.Refusals.{none, hit, miss, code, first-zero}
 use Rattle.whole.proofs.Rules.{ints}
 use Rattle.whole.proofs.Tests.{or-cases, or-left-off}
 use Rattle.rates.specs.Lent.{Tables}
-use Rattle.book.specs.Rules.{holdsListed}
 use Rattle.book.specs.Choices.{tradeOf}
 use Rattle.book.specs.Changes.{traded}
 use Rattle.book.specs.declared.changes.Trade.{Trade}
 use Rattle.book.specs.declared.terms.Terms.{Terms}
-use Rattle.book.proofs.AtAccount.{at-long, at-block}
-use Rattle.book.proofs.Traded.{traded-length, traded-listed}
+use Rattle.book.proofs.AtAccount.{at-long}
+use Rattle.book.proofs.Traded.{traded-length, traded-head, traded-listed}
+use Rattle.settlement.specs.Code.{codeHoldsListed}
 use Rattle.engine.specs.State.{State, blockAt}
 use Rattle.engine.specs.Refused.{reportRefusals, orderStands, orderJudged, limitOf, enough, raised, admitted}
 use Rattle.engine.specs.Calls.{Outcome, outcomeOf, ordering, judgedTrade, changing}
 use Rattle.engine.specs.Report.{reportOf}
 use Rattle.engine.proofs.Gates.{report-answers}
 use Rattle.engine.proofs.Judged.{judgeable-booked}
+use Rattle.engine.proofs.Judged as still
 use Rattle.engine.proofs.Outcomes.{turned-away, let-through, made}
 use Rattle.engine.proofs.Passed.{OrderStood, order-stood}
 use Rattle.engine.proofs.Reports.{answers-0, limit-reported}
@@ -52,10 +52,10 @@ module _ (tables : Tables) (i : ℕ) (o : Terms) (s : State) (stands : firstCode
   stood : OrderStood tables i o s
   stood = order-stood tables i o s stands
 
-  listed-still : holdsListed (blockAt booked i) (tables .clearing) ≡ true
-  listed-still = let r = stood .reported in
-      ap (λ (b : List ℤ). holdsListed b (tables .clearing)) (at-block (s .book) i (r .gate .there) (λ b. traded b t) (traded-length (blockAt s i) t))
-      ∙ traded-listed (blockAt s i) t (stood .stands .tradable .ranges) (tables .clearing) (r .listed) (stood .asset-listed)
+  listed-still : codeHoldsListed (booked .book) i (tables .clearing) ≡ true
+  listed-still = let r = stood .reported in let ranges = stood .stands .tradable .ranges in
+      still.listed-still i s (λ b. traded b t) (r .gate .there) (traded-length (blockAt s i) t) (traded-head (blockAt s i) t ranges) (tables .clearing) (r .listed)
+      (λ own. traded-listed (blockAt s i) t ranges (tables .clearing) own (stood .asset-listed))
 
   -- the two reports
   pub found-reports : reportOf tables i s .code ≡ 0

@@ -15,15 +15,15 @@ use Rattle.whole.proofs.Refusals.{changed, none-holds, first-zero, second-zero}
 use Rattle.book.specs.Rules.{holdsListed}
 use Rattle.book.specs.Choices.{assetRight, isRubles}
 use Rattle.book.specs.Changes.{moved, moveOut}
-use Rattle.book.proofs.AtAccount.{at-long, at-block}
-use Rattle.book.proofs.Moved.{moved-length, moved-listed, rubles-listed}
+use Rattle.book.proofs.AtAccount.{at-long}
+use Rattle.book.proofs.Moved.{moved-length, moved-head, moved-listed, rubles-listed}
 use Rattle.rates.specs.Lent.{Tables}
 use Rattle.engine.specs.State.{State, blockAt, changedAt}
 use Rattle.engine.specs.Refused.{moveChecks, moveStands, reportRefusals, figuresAt}
 use Rattle.engine.specs.Calls.{outcomeOf, moving, judgedMove}
 use Rattle.engine.specs.Report.{reportOf}
 use Rattle.engine.proofs.Gates.{report-answers}
-use Rattle.engine.proofs.Judged.{judgeable-moved}
+use Rattle.engine.proofs.Judged.{listed-still, judgeable-moved}
 use Rattle.engine.proofs.Passed.{MoveStood, move-stood}
 use Rattle.whole.proofs.Parameters.{index-is}
 use Rattle.engine.proofs.Reports.{answers-0, figures-reported}
@@ -66,8 +66,8 @@ module _ (tables : Tables) (i : ℕ) (asset amount : ℤ) (s : State) (e : outco
   unfolding outcomeOf moving judgedMove
   moved-is = sym (changed _ moved-state s e)
 
-  listed-moved : holdsListed (moved block (natAbs asset) amount) (tables .clearing) ≡ true
-  listed-moved = let held = stood-move .reported .listed in let within = assetRight asset in
+  listed-moved : holdsListed block (tables .clearing) ≡ true → holdsListed (moved block (natAbs asset) amount) (tables .clearing) ≡ true
+  listed-moved held = let within = assetRight asset in
       ⊎-elim
       (λ r. subst (λ (a : ℕ). holdsListed (moved block a amount) (tables .clearing) ≡ true) (sym (ap natAbs (equal-says r)))
       (rubles-listed block amount (tables .clearing) held))
@@ -79,7 +79,8 @@ module _ (tables : Tables) (i : ℕ) (asset amount : ℤ) (s : State) (e : outco
   move-reports = let q = stood-move in let long = moved-length block (natAbs asset) amount in let there = q .reported .gate .there in
       report-answers tables i s moved-state (q .reported .gate-0) (at-long (s .book) i there (λ b. moved b (natAbs asset) amount) long ∙ sym (there .long))
       (judgeable-moved tables i s (natAbs asset) amount (q .stands))
-      (ap (λ (b : List ℤ). holdsListed b (tables .clearing)) (at-block (s .book) i there (λ b. moved b (natAbs asset) amount) long) ∙ listed-moved)
+      (listed-still i s (λ b. moved b (natAbs asset) amount) there long (moved-head block (natAbs asset) amount (q .stands .movable .movable)) (tables .clearing)
+      (q .reported .listed) listed-moved)
 
 pub move-reported : MoveReported
 move-reported tables i asset amount s e = says tables i (moved-is tables i asset amount s e) (answers-0 tables i _ (move-reports tables i asset amount s e))

@@ -1,61 +1,63 @@
--- After a call that passed, the account's block keeps the block rules and is open (specs/EveryCall, GoodAfter). Assumes nothing.
+-- After a call that passed, the account's block keeps the block rules and is open, and its settlement code is right (specs/EveryCall, GoodAfter).
+-- Assumes nothing.
 use mathlib.Core.Path.{_≡_, refl, sym, ap, _∙_, subst}
-use mathlib.Core.Bool.{Bool, true, false, _||_}
+use mathlib.Core.Bool.{true, false, _&&_}
 use mathlib.Core.List.{List, [], _∷_, _++_}
 use mathlib.Core.Logic.{inl}
-use Prim.Native.Nat.{ℕ}
+use Prim.Native.Nat.{ℕ, _<_}
 use lib.IntN.{ℤ, natAbs}
-use lib.ListN.{length}
 use borrow.Author.Tests.{not-false}
 use Rattle.whole.specs.Bounds.{isZero}
-use Rattle.whole.specs.Marks.{allZero}
 use Rattle.whole.specs.Refusals.{Refusal, _gives_, firstCode, outOfBounds}
-use Rattle.whole.proofs.Tests.{true-not-false}
+use Rattle.whole.proofs.Tests.{and-left, and-right}
 use Rattle.whole.proofs.Refusals.{changed, none-holds, first-zero, second-zero}
+use Rattle.rates.specs.Lent.{Tables}
 use Rattle.book.specs.Block.{accountKind}
-use Rattle.book.specs.Rules.{kindRight, goodBlock}
+use Rattle.book.specs.Rules.{kindRight}
 use Rattle.book.specs.Choices.{tradeOf}
 use Rattle.book.specs.Changes.{opened}
 use Rattle.book.specs.Roll.{rolled, rollOut}
-use Rattle.book.specs.AtAccount.{InBook}
 use Rattle.book.proofs.AtAccount.{block-long, at-block}
-use Rattle.book.proofs.Opened.{opened-length, opened-open, opened-good}
+use Rattle.book.proofs.Opened.{opened-length, opened-open}
 use Rattle.book.proofs.Rolled.{rolled-length, rolled-head, rolled-good}
+use Rattle.settlement.specs.Code.{codeRight}
+use Rattle.settlement.proofs.Mates.{on-itself}
+use Rattle.settlement.proofs.Right.{member-good}
 use Rattle.engine.specs.State.{State, blockAt, changedAt}
-use Rattle.engine.specs.Refused.{bookGate, blockRefusals, openRefusals, rollRefusals, moveStands, orderStands}
-use Rattle.engine.specs.Calls.{Call, codeOf, outcomeOf, opening, rolling, moving, ordering, judgedMove, judgedTrade}
-use Rattle.engine.proofs.Judged.{judgeable-booked, judgeable-moved}
+use Rattle.engine.specs.Refused.{bookGate, blockRefusals, openStands, openJudged, rollRefusals, moveStands, orderStands}
+use Rattle.engine.specs.Ranges.{Judgeable}
+use Rattle.engine.specs.Calls.{Call, codeOf, outcomeOf, opening, judgedOpening, rolling, moving, ordering, judgedMove, judgedTrade}
+use Rattle.engine.proofs.Judged.{own-good, right-still, judgeable-booked, judgeable-moved}
 use Rattle.engine.proofs.Passed.{open-passed, roll-passed, move-stood, order-stood}
-use Rattle.promises.specs.EveryCall.{Good, GoodAfter}
-
-abbrev GoodOpen : List ℤ → Type 0
-GoodOpen block = (goodBlock block ≡ true) × (isZero (accountKind block) ≡ false)
+use Rattle.promises.specs.EveryCall.{GoodAt, Good, GoodAfter}
 
 -- what the change leaves is what the call left
-after : (i : ℕ) (call : Call) (s : State) → (codeOf call s ≡ 0 → GoodOpen (blockAt (call .change s) i)) → Good i call s
+after : (i : ℕ) (call : Call) (s : State) → (codeOf call s ≡ 0 → GoodAt i (call .change s)) → Good i call s
 unfolding outcomeOf
-after i call s f e = subst (λ (q : State). GoodOpen (blockAt q i)) (changed _ (call .change s) s e) (f e)
+after i call s f e = subst (GoodAt i) (changed _ (call .change s) s e) (f e)
 
-changed-good : (i : ℕ) (change : List ℤ → List ℤ) (s : State) → InBook (s .book) i → length (change (blockAt s i)) ≡ length (blockAt s i)
-    → GoodOpen (change (blockAt s i)) → GoodOpen (blockAt (changedAt i change s) i)
-changed-good i change s p long = subst GoodOpen (sym (at-block (s .book) i p change long))
+-- a right code has a good block
+right-good : (i : ℕ) (s : State) → i < 16 → codeRight (s .book) i ≡ true → isZero (accountKind (blockAt s i)) ≡ false → GoodAt i s
+right-good i s l right is-open = record { good = member-good (s .book) i i l (on-itself (s .book) i) right; is-open = is-open; code-right = right }
 
--- an open: the block was all zero, and the kind is one of three
-open-good : (i : ℕ) (kind : ℤ) (s : State) → firstCode (openRefusals i kind s) ≡ 0 → GoodOpen (blockAt (changedAt i (λ b. opened b kind) s) i)
-open-good i kind s e =
+-- an open: 7 asks the kind, and the code with the block opened
+asked-opened : (i : ℕ) (kind code : ℤ) (s : State) → firstCode (openStands i s ++ openJudged i kind code s) ≡ 0
+    → kindRight kind && codeRight (changedAt i (λ b. opened b kind code) s .book) i ≡ true
+asked-opened i kind code s e = not-false _ (none-holds (openJudged i kind code s) tt (second-zero (openStands i s) _ tt e) 0)
+
+pub opened-right : (i : ℕ) (kind code : ℤ) (s : State) → firstCode (openStands i s ++ openJudged i kind code s) ≡ 0
+    → codeRight (changedAt i (λ b. opened b kind code) s .book) i ≡ true
+opened-right i kind code s e = and-right (kindRight kind) _ (asked-opened i kind code s e)
+
+open-good : (i : ℕ) (kind code : ℤ) (s : State) → firstCode (openStands i s ++ openJudged i kind code s) ≡ 0 → GoodAt i (changedAt i (λ b. opened b kind code) s)
+open-good i kind code s e =
     let block = blockAt s i in
-    let p = open-passed i kind s e in
-    let long = block-long (s .book) i p in
-    let off = none-holds _ tt (second-zero (bookGate i s) _ tt e) in
-    let empty = or-first (allZero block) (not-false _ (off 0)) (off 1) in
-    let right = not-false (kindRight kind) (off 2) in
-    changed-good i (λ b. opened b kind) s p (opened-length block kind) (opened-good block kind long empty right, opened-open block kind long empty right)
-  where
-    or-first : (a : Bool) {b : Bool} → a || b ≡ true → b ≡ false → a ≡ true
-    or-first true e f = refl
-    or-first false e f = true-not-false (sym f ∙ e)
+    let p = open-passed i s (first-zero (openStands i s) _ e) .there in
+    right-good i (changedAt i (λ b. opened b kind code) s) (p .below) (opened-right i kind code s e)
+    (ap (λ (b : List ℤ). isZero (accountKind b)) (at-block (s .book) i p (λ b. opened b kind code) (opened-length block kind code))
+    ∙ opened-open block kind code (block-long (s .book) i p) (and-left (kindRight kind) _ (asked-opened i kind code s e)))
 
-roll-good : (i : ℕ) (s : State) → firstCode (rollRefusals i s) ≡ 0 → GoodOpen (blockAt (changedAt i rolled s) i)
+roll-good : (i : ℕ) (s : State) → firstCode (rollRefusals i s) ≡ 0 → GoodAt i (changedAt i rolled s)
 roll-good i s e =
     let block = blockAt s i in
     let p = roll-passed i s e in
@@ -64,18 +66,23 @@ roll-good i s e =
     let off = none-holds (blockRefusals i s) tt (first-zero (blockRefusals i s) nine past) in
     let kept = not-false _ (none-holds nine tt (second-zero (blockRefusals i s) nine tt past) 0) in
     let long = p .1 .long in
-    changed-good i rolled s (p .0) (rolled-length block long ∙ sym long)
-    (rolled-good block long (off 1) (not-false _ (off 0)) kept, ap isZero (rolled-head block long 0 (inl refl)) ∙ off 1)
+    let right = not-false (codeRight (s .book) i) (off 0) in
+    let whole = rolled-length block long ∙ sym long in
+    right-good i (changedAt i rolled s) (p .0 .below)
+    (right-still i s rolled (p .0) whole (rolled-head block long)
+    (rolled-good block long (off 1) (member-good (s .book) i i (p .0 .below) (on-itself (s .book) i) right) kept) i (p .0 .below) right)
+    (ap (λ (b : List ℤ). isZero (accountKind b)) (at-block (s .book) i (p .0) rolled whole) ∙ ap isZero (rolled-head block long 0 (inl refl)) ∙ off 1)
+
+judged-good : {tables : Tables} {i : ℕ} {s : State} → Judgeable tables i s → GoodAt i s
+judged-good j = record { good = own-good j; is-open = j .is-open; code-right = j .right }
 
 pub good-after : GoodAfter
-unfolding opening rolling moving judgedMove ordering judgedTrade
+unfolding opening judgedOpening rolling moving judgedMove ordering judgedTrade
 good-after = record {
-  opens = λ i kind s. after i (opening i kind) s (λ e. open-good i kind s (first-zero (openRefusals i kind s) [] e));
+  opens = λ i kind code s. after i (opening i kind code) s (λ e. open-good i kind code s e);
   rolls = λ i s. after i (rolling i) s (λ e. roll-good i s (first-zero (rollRefusals i s) [] e));
   moves = λ tables i asset amount s. after i (moving tables i asset amount) s (λ e.
-      let j = judgeable-moved tables i s (natAbs asset) amount (move-stood tables i asset amount s (first-zero (moveStands tables i asset amount s) _ e) .stands) in
-      (j .good, j .is-open));
+      judged-good (judgeable-moved tables i s (natAbs asset) amount (move-stood tables i asset amount s (first-zero (moveStands tables i asset amount s) _ e) .stands)));
   orders = λ tables i o s. after i (ordering tables i o) s (λ e.
-      let j = judgeable-booked tables i s (tradeOf o) (order-stood tables i o s (first-zero (orderStands tables i o s) _ e) .stands) in
-      (j .good, j .is-open));
+      judged-good (judgeable-booked tables i s (tradeOf o) (order-stood tables i o s (first-zero (orderStands tables i o s) _ e) .stands)));
 }

@@ -15,9 +15,11 @@ use Rattle.book.specs.Changes.{added}
 use Rattle.book.specs.Rules.{goodBlock}
 use Rattle.book.proofs.Changed.{added-length, number-added, number-beside}
 use Rattle.book.proofs.Moves.{move-inside}
+use Rattle.settlement.proofs.Mates.{on-itself}
+use Rattle.figures.specs.Laws.{Covered}
 use Rattle.engine.specs.State.{State, blockAt}
 use Rattle.promises.specs.Sums.{stateIn, tablesIn, S1, S2, S4}
-use Rattle.promises.specs.Deposit.{collateralIn, Covered, MoreCollateral}
+use Rattle.promises.specs.Deposit.{collateralIn, OnCodeOf, MoreCollateral}
 use Rattle.promises.specs.Needed.{Exhibit, deposited, lostWhole, partly, buyBack, tenMore, NotPartial, CoverNeeded, NotPartialNeeded, ZeroOrMoreNeeded}
 use Rattle.promises.specs.Needed.{oneFigure, OneFigureRefused}
 use Rattle.promises.proofs.Computed.{computed}
@@ -51,6 +53,10 @@ more-deposited = more-added (stateIn S1) deposited (pos 2) (computed .facts .lon
 more-troubled : MoreCollateral (stateIn S4) tenMore 0 0 (pos 10)
 more-troubled = more-added (stateIn S4) tenMore (pos 10) (computed .facts .troubled-long) (omega ints) refl (computed .facts .ten-more-good)
 
+-- account 0 receives it itself
+itself : (s : State) → OnCodeOf 0 s 0
+itself s = record { an-account = omega arith; on-code = on-itself (s .book) 0 }
+
 -- a row that is marked 0 is not marked 2
 not-two : {x : ℤ} → x ≡ pos 0 → x ≢ pos 2
 not-two e f = let two : _≡_ {A = ℕ} 0 2 = ap natAbs (sym e ∙ f) in omega arith
@@ -69,13 +75,13 @@ pub cover-needed : CoverNeeded
 cover-needed claim =
     let found = computed .cases-answered in
     let listed-whole : NotPartial lostWhole 0 = (computed .facts .lost-listed, not-two (computed .facts .lost-sales)) in
-    let h = claim lostWhole 0 (stateIn S1) (ap (codeAt 0) found) 0 listed-whole deposited (pos 2) more-deposited .1 in
+    let h = claim lostWhole 0 (stateIn S1) (ap (codeAt 0) found) 0 listed-whole 0 (itself (stateIn S1)) deposited (pos 2) more-deposited .1 in
     omega (ints, ap (limitAt 0) found, ap (limitAt 1) found)
 
 pub not-partial-needed : NotPartialNeeded
 not-partial-needed claim =
     let found = computed .cases-answered in
-    let h = claim partly 0 (stateIn S1) (ap (codeAt 2) found) 0 (omega arith, computed .facts .partly-covers) deposited (pos 2) more-deposited .1 in
+    let h = claim partly 0 (stateIn S1) (ap (codeAt 2) found) 0 (omega arith, computed .facts .partly-covers) 0 (itself (stateIn S1)) deposited (pos 2) more-deposited .1 in
     omega (ints, ap (limitAt 2) found, ap (limitAt 3) found)
 
 -- S4's tables are S1's: row A for asset 0 and no own row

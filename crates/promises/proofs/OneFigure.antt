@@ -3,12 +3,13 @@
 use lib.Signed.{≤ℤ-refl}
 use Rattle.whole.specs.Refusals.{leaves}
 use Rattle.figures.specs.declared.limit.Figures.{Figures}
-use Rattle.promises.specs.Deposit.{Covered, AssetDeposit}
+use Rattle.figures.specs.Laws.{Covered}
+use Rattle.promises.specs.Deposit.{AssetDeposit}
 use Rattle.promises.specs.Needed.{oneFigure}
 use Rattle.promises.proofs.Deposit.{asset-deposit}
 
 pub one-figure-passes : (fixed : Figures) → AssetDeposit (oneFigure fixed) Covered
 unfolding oneFigure leaves
-one-figure-passes fixed tables i s answers asset covered other sum d =
-    let still = asset-deposit tables i s answers asset covered other sum d .0 in
+one-figure-passes fixed tables i s answers asset covered j p other sum d =
+    let still = asset-deposit tables i s answers asset covered j p other sum d .0 in
     (still, rw (answers, still) (≤ℤ-refl (fixed .limit)))

@@ -18,7 +18,7 @@ use Rattle.rates.specs.Lent.{Tables}
 use Rattle.rates.specs.Tables.{lengthsRight, soundTables, onlyStricter, tableRefusals, checkCode}
 use Rattle.book.specs.Block.{bookLength}
 use Rattle.engine.specs.State.{State}
-use Rattle.engine.specs.Calls.{outcomeOf, opening, rolling, moving, judgedMove, ordering, judgedTrade}
+use Rattle.engine.specs.Calls.{outcomeOf, opening, judgedOpening, rolling, moving, judgedMove, ordering, judgedTrade}
 use Rattle.engine.specs.Report.{reportOf}
 use Rattle.promises.specs.Sums.{_is_, stateIn, tablesIn}
 use Rattle.promises.specs.OwnRows.{AsChecked, OwnRowsAsked, CanRaise, ownRowA, owesTen}
@@ -56,14 +56,14 @@ asked tables s rest w = record {
     by false l s o e = absurd (omega arith)
 
 pub own-rows-asked : OwnRowsAsked
-unfolding outcomeOf opening rolling moving judgedMove ordering judgedTrade reportOf
+unfolding outcomeOf opening judgedOpening rolling moving judgedMove ordering judgedTrade reportOf
 own-rows-asked = record {
   reports = λ tables i s. asked tables s _ refl;
   moves = λ tables i asset amount s. asked tables s _ refl;
   moves-stand = λ tables i asset amount s. asked tables s _ refl;
   orders = λ tables i o s. asked tables s _ refl;
   orders-stand = λ tables i o s. asked tables s _ refl;
-  opens = λ i kind s. never-13 _ refl;
+  opens = λ i kind code s. never-13 _ refl;
   rolls = λ i s. never-13 _ refl;
 }
 

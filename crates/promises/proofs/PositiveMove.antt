@@ -21,7 +21,7 @@ use Rattle.engine.specs.State.{State, blockAt, changedAt}
 use Rattle.engine.specs.Refused.{reportRefusals, moveChecks, moveStands, moveJudged}
 use Rattle.engine.specs.Calls.{outcomeOf, moving, judgedMove}
 use Rattle.engine.specs.Report.{reportOf}
-use Rattle.engine.proofs.Judged.{judgeable-moved}
+use Rattle.engine.proofs.Judged.{own-good, judgeable-moved}
 use Rattle.engine.proofs.Passed.{MoveStood, move-stood}
 use Rattle.engine.proofs.Reports.{answers-0}
 use Rattle.promises.specs.Deposit.{collateralIn, MoreCollateral}
@@ -71,5 +71,5 @@ module _ (tables : Tables) (i : ℕ) (asset amount : ℤ) (s : State) (answers :
     same-length = ap length book-is ∙ added-length (s .book) here amount;
     in-rules =
         ap (λ (q : State). goodBlock (blockAt q i)) left-is
-        ∙ judgeable-moved tables i s (natAbs asset) amount (q .stands) .good;
+        ∙ own-good (judgeable-moved tables i s (natAbs asset) amount (q .stands));
   }

@@ -7,7 +7,7 @@ use Prim.Native.Nat.{ℕ, _+_, _*_}
 use native.Mathlib.Omega.{arith}
 use lib.Dec.{eqb}
 use lib.IntN.{ℤ, pos, natAbs}
-use lib.ListN.{length, length-set, set}
+use lib.ListN.{length, set}
 use lib.Seq.{getD-set-other}
 use borrow.Author.Tests.{eqb-true}
 use Rattle.whole.specs.Parts.{number}
@@ -24,6 +24,7 @@ use Rattle.book.specs.Roll.{rolled}
 use Rattle.book.specs.AtAccount.{InBook}
 use Rattle.book.specs.declared.terms.Terms.{Terms}
 use Rattle.book.proofs.AtAccount.{at-block}
+use Rattle.book.proofs.Opened.{opened-length, opened-others}
 use Rattle.book.proofs.Moved.{moved-length, moved-head}
 use Rattle.book.proofs.Rolled.{rolled-length, rolled-head}
 use Rattle.book.proofs.Traded.{traded-length, traded-head}
@@ -31,8 +32,8 @@ use Rattle.assets.specs.Asset.{assetOf}
 use Rattle.assets.specs.Part.{partOf}
 use Rattle.figures.specs.Limit.{totalsOf, figuresOf, rublesOf, partIn, blockFigures}
 use Rattle.engine.specs.State.{State, blockAt, changedAt}
-use Rattle.engine.specs.Refused.{openRefusals, rollRefusals, moveStands, orderStands}
-use Rattle.engine.specs.Calls.{Call, codeOf, outcomeOf, opening, rolling, moving, ordering, judgedMove, judgedTrade}
+use Rattle.engine.specs.Refused.{openStands, rollRefusals, moveStands, orderStands}
+use Rattle.engine.specs.Calls.{Call, codeOf, outcomeOf, opening, judgedOpening, rolling, moving, ordering, judgedMove, judgedTrade}
 use Rattle.engine.proofs.Passed.{open-passed, roll-passed, move-stood, order-stood}
 use Rattle.promises.specs.EveryCall.{Stays, Unchanged, HeadUnread}
 
@@ -51,11 +52,11 @@ left-alone : (i : ℕ) (change : List ℤ → List ℤ) (s : State) (k : ℕ) �
 left-alone i change s k p long e = ap (λ (b : List ℤ). number b k) (at-block (s .book) i p change long) ∙ e
 
 module _ (i : ℕ) (s : State) (k : ℕ) where
-  open-stays : (kind : ℤ) → k ≢ 0 → Stays i (opening i kind) s k
-  unfolding opening opened
-  open-stays kind apart = stays i (opening i kind) s k (λ e.
-      left-alone i (λ b. opened b kind) s k (open-passed i kind s (first-zero (openRefusals i kind s) _ e)) (length-set (blockAt s i) 0 kind)
-      (getD-set-other (blockAt s i) 0 k kind (pos 0) apart))
+  open-stays : (kind code : ℤ) → k ≢ 0 → k ≢ 13 → Stays i (opening i kind code) s k
+  unfolding opening judgedOpening
+  open-stays kind code apart beyond = stays i (opening i kind code) s k (λ e.
+      left-alone i (λ b. opened b kind code) s k (open-passed i s (first-zero (openStands i s) _ e) .there) (opened-length (blockAt s i) kind code)
+      (opened-others (blockAt s i) kind code k apart beyond))
 
   module _ (head : InHead k) where
     roll-stays : Stays i (rolling i) s k
@@ -80,7 +81,7 @@ module _ (i : ℕ) (s : State) (k : ℕ) where
 
 pub unchanged : Unchanged
 unchanged = record {
-  opens = λ i kind s k. open-stays i s k kind;
+  opens = λ i kind code s k. open-stays i s k kind code;
   rolls = λ i s k. roll-stays i s k;
   moves = λ tables i asset amount s k head. move-stays i s k head tables asset amount;
   orders = λ tables i o s k head. order-stays i s k head tables o;

@@ -1,18 +1,17 @@
--- Clause 4.11 by sums: three of two blocks that are valued together, and what two wrong ways give for them, which the checker computes from the written
--- rules. Row A is document 01's; the first and the third sum have the holdings of S3 and S11, one half in each block.
+-- Clause 4.11 by sums: three of two accounts under one settlement code, what they report, and what two wrong ways give for them, which the
+-- checker computes from the written rules. Row A is document 01's; the first and the third sum have the holdings of S3 and S11, one half in each block.
 -- Assumes nothing.
 use mathlib.Core.Path.{_≡_}
-use mathlib.Core.Bool.{Bool}
 use mathlib.Core.List.{List, [], _∷_, _++_, map}
 use Prim.Native.Nat.{ℕ}
-use lib.Dec.{ltb}
 use lib.IntN.{ℤ, pos, _+ℤ_}
-use lib.ListN.{replicate, getD}
+use lib.ListN.{replicate}
 use Rattle.whole.specs.Parts.{number}
 use Rattle.rates.specs.RowA.{less, rowA}
 use Rattle.figures.specs.Limit.{five, blockFigures}
-use Rattle.figures.specs.Joint.{figuresOn}
-use Rattle.promises.specs.Sums.{Entry, _is_, written, collateral, claim, obligation, lentWith}
+use Rattle.engine.specs.State.{State}
+use Rattle.engine.specs.Report.{reportOf}
+use Rattle.promises.specs.Sums.{Entry, _is_, written, collateral, claim, obligation, lentWith, said}
 
 -- what each of two ordinary accounts holds, the figures of both together, and what the wrong way gives
 pub record JointSum : Type 0 where
@@ -21,15 +20,13 @@ pub record JointSum : Type 0 where
   pub result : List ℤ
   pub wrong : List ℤ
 
-abbrev holds : List Entry → List ℤ
-holds entries = written (replicate 288 (pos 0)) (0 is pos 1 ∷ entries)
+-- an ordinary account on code 7
+abbrev pub holds : List Entry → List ℤ
+holds entries = written (replicate 288 (pos 0)) (0 is pos 1 ∷ 13 is pos 7 ∷ entries)
 
--- blocks by account: the two, and no others
-abbrev blocksIn : JointSum → ℕ → List ℤ
-blocksIn s j = getD (holds (s .first) ∷ holds (s .second) ∷ []) j (replicate 288 (pos 0))
-
-abbrev firstTwo : ℕ → Bool
-firstTwo j = ltb j 2
+-- accounts 0 and 1 are the two, and the others are not open
+abbrev pub sharing : JointSum → State
+sharing s = record { book = holds (s .first) ++ (holds (s .second) ++ replicate 4032 (pos 0)) }
 
 -- ---- the sums, each with its wrong way
 -- 40 in one block, 30 due in the other: in one block the 40 would cover the sale (S3)
@@ -60,24 +57,25 @@ spread = record {
 }
 
 -- ---- the claim
-abbrev jointly : JointSum → List ℤ
-jointly s = five (figuresOn firstTwo 1 (blocksIn s) (lentWith rowA rowA))
-
 -- wrong: both holdings in one block
-abbrev inOneBlock : JointSum → List ℤ
+abbrev pub inOneBlock : JointSum → List ℤ
 inOneBlock s = five (blockFigures (holds (s .first ++ s .second)) (lentWith rowA rowA))
 
 -- wrong: risks and discount of each block by itself, and the figures added
-abbrev blockByBlock : JointSum → List ℤ
+abbrev pub blockByBlock : JointSum → List ℤ
 blockByBlock s =
     let of : List Entry → ℕ → ℤ = λ entries. number (five (blockFigures (holds entries) (lentWith rowA rowA))) in
     map (λ (k : ℕ). of (s .first) k +ℤ of (s .second) k) (0 ∷ 1 ∷ 2 ∷ 3 ∷ 4 ∷ [])
 
+-- what account 0 reports: its code, and the five figures; account 1 reports the same (specs/Codes, OneReport)
+abbrev reported : JointSum → List ℤ
+reported s = said (reportOf (lentWith rowA rowA) 0 (sharing s))
+
 abbrev pub JointSumsMet : Type 0
 JointSumsMet =
-    jointly uncovered ∷ jointly concentrated ∷ jointly spread
+    reported uncovered ∷ reported concentrated ∷ reported spread
     ∷ inOneBlock uncovered ∷ blockByBlock concentrated ∷ blockByBlock spread
     ∷ []
-    ≡ uncovered .result ∷ concentrated .result ∷ spread .result
+    ≡ (pos 0 ∷ uncovered .result) ∷ (pos 0 ∷ concentrated .result) ∷ (pos 0 ∷ spread .result)
     ∷ uncovered .wrong ∷ concentrated .wrong ∷ spread .wrong
     ∷ []

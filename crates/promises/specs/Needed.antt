@@ -21,13 +21,14 @@ use Rattle.book.specs.Changes.{added}
 use Rattle.book.specs.Rules.{goodBlock}
 use Rattle.book.specs.declared.terms.Terms.{Terms}
 use Rattle.figures.specs.Limit.{five}
+use Rattle.figures.specs.Laws.{Covered}
 use Rattle.figures.specs.declared.limit.Figures.{Figures}
 use Rattle.engine.specs.State.{State, blockAt}
 use Rattle.engine.specs.Calls.{outcomeOf, ordering}
 use Rattle.engine.specs.Report.{reportOf, noFigures}
 use Rattle.promises.specs.Sums.{Sum, _is_, written, noRow, stateIn, tablesIn, lentWith, said, S1, S2, S4}
 use Rattle.promises.specs.Admission.{withOrder}
-use Rattle.promises.specs.Deposit.{collateralIn, Covered, MoreCollateral, Report, AssetDeposit, OrderAfterDeposit}
+use Rattle.promises.specs.Deposit.{collateralIn, MoreCollateral, Report, AssetDeposit, OrderAfterDeposit}
 
 -- ---- one deposit that meets every hypothesis: forty of asset 0 under row A, from S1 to S2
 pub record Exhibit : Type 0 where

@@ -36,7 +36,7 @@ pub record OwnRowsAsked : Type 0 where
   pub moves-stand : (tables : Tables) (i : ℕ) (asset amount : ℤ) (s : State) → AsChecked tables s (firstCode (moveStands tables i asset amount s))
   pub orders : (tables : Tables) (i : ℕ) (o : Terms) (s : State) → AsChecked tables s (outcomeOf (ordering tables i o) s .code)
   pub orders-stand : (tables : Tables) (i : ℕ) (o : Terms) (s : State) → AsChecked tables s (firstCode (orderStands tables i o s))
-  pub opens : (i : ℕ) (kind : ℤ) (s : State) → outcomeOf (opening i kind) s .code ≢ laxerOwnRow
+  pub opens : (i : ℕ) (kind code : ℤ) (s : State) → outcomeOf (opening i kind code) s .code ≢ laxerOwnRow
   pub rolls : (i : ℕ) (s : State) → outcomeOf (rolling i) s .code ≢ laxerOwnRow
 
 -- ---- not promised: that own rows which pass the check never raise a limit

@@ -26,7 +26,7 @@ short code figures h = omega (arith, answer-length code figures)
 pub answer-fits : (m : Memory) (frame : Frame) → length (answered m frame .line) ≤ longestAnswer
 unfolding answered
 answer-fits m (Parameter place number) = short _ [] (omega arith)
-answer-fits m (Open account kind) = short _ [] (omega arith)
+answer-fits m (Open account kind code) = short _ [] (omega arith)
 answer-fits m (Move l) = short _ [] (omega arith)
 answer-fits m (Order l) = short _ [] (omega arith)
 answer-fits m (Roll account) = short _ [] (omega arith)

@@ -94,7 +94,7 @@ reportLine r = answerLine (r .code) (five (r .figures))
 unfoldable pub answered : Memory → Frame → Answered
 answered m (Parameter place number) =
     coded (record { state = m .state; parameters = parameterSet (m .parameters) place number }) (placeCode place)
-answered m (Open account kind) = called m (opening (accountAt account) (pos kind))
+answered m (Open account kind code) = called m (opening (accountAt account) (pos kind) (pos code))
 answered m (Move l) = called m (lineMove (m .parameters) l)
 answered m (Order l) = called m (lineOrder (m .parameters) l)
 answered m (Roll account) = called m (rolling (accountAt account))

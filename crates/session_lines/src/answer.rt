@@ -50,7 +50,11 @@ pub(crate) fn answer(
             at,
             calls::set_parameter(parameters, place, number),
         ),
-        Frame::Open { account, kind } => put_code(out, at, calls::open(book, account, kind)),
+        Frame::Open {
+            account,
+            kind,
+            code,
+        } => put_code(out, at, calls::open(book, account, kind, code)),
         Frame::Move(line) => put_code(out, at, calls::move_collateral(book, parameters, line)),
         Frame::Order(line) => put_code(out, at, calls::order(book, parameters, line)),
         Frame::Roll { account } => put_code(out, at, calls::roll(book, account)),

@@ -28,10 +28,10 @@ pub(crate) fn set_parameter(parameters: &mut [i64], place: usize, number: i64) -
 }
 
 // 02
-pub(crate) fn open(book: &mut [i64], account: u8, kind: u8) -> u8
-    ensures { λ r. ⌜ answer r book ≡ outcomeOf (opening (accountAt account) (pos kind)) (found book) ⌝ }
+pub(crate) fn open(book: &mut [i64], account: u8, kind: u8, code: u8) -> u8
+    ensures { λ r. ⌜ answer r book ≡ outcomeOf (opening (accountAt account) (pos kind) (pos code)) (found book) ⌝ }
 {
-    engine::open(book, account as i64, kind as i64)
+    engine::open(book, account as i64, kind as i64, code as i64)
 }
 
 // 03

@@ -1,16 +1,18 @@
 -- The laws of specs/Laws of what a code depends on: the blocks that are on it, and no others. Assumes nothing.
-use mathlib.Core.Path.{_≡_, refl, sym, ap, ap₂, _∙_}
-use mathlib.Core.Logic.{inl, inr}
+use mathlib.Core.Path.{_≡_, refl, sym, ap, ap₂, _∙_, subst}
+use mathlib.Core.Logic.{inl, inr, ⊎-elim}
 use mathlib.Core.Bool.{Bool, true, false, not, _&&_, _||_}
 use mathlib.Core.List.{List}
 use Prim.Native.Nat.{ℕ, _<_}
 use lib.Dec.{eqb, leb}
 use lib.IntN.{ℤ}
 use Rattle.whole.specs.Bounds.{equal, isZero}
-use Rattle.book.specs.Block.{blockOf, accountKind, settlementCode}
+use Rattle.whole.proofs.Tests.{true-not-false}
+use Rattle.book.specs.Block.{blockOf, putBlock, accountKind, settlementCode}
 use Rattle.book.specs.Rules.{goodBlock, holdsListed}
+use Rattle.book.proofs.Blocks.{block-put-other}
 use Rattle.settlement.specs.Code.{onCode, memberRight, codeRight, codeHoldsListed}
-use Rattle.settlement.specs.Laws.{AlikeBlocks, AlikeOn, AlikeRight, AlikeHoldsListed}
+use Rattle.settlement.specs.Laws.{AlikeBlocks, AlikeOn, AlikeRight, AlikeHoldsListed, AlikeElsewhere}
 use Rattle.settlement.proofs.Codes.{count-same, each-same}
 use Rattle.settlement.proofs.Mates.{on-itself}
 
@@ -44,3 +46,9 @@ unfolding codeHoldsListed
 alike-holds-listed i book other clearing l alike =
     each-same (onCode book i) (onCode other i) (λ j. holdsListed (blockOf book j) clearing) (λ j. holdsListed (blockOf other j) clearing)
     (alike-on i book other l alike) (λ j q e. ap (λ (b : List ℤ). holdsListed b clearing) (alike j q (inr e)))
+
+pub alike-elsewhere : AlikeElsewhere
+alike-elsewhere i book j new there sized off off′ k l h =
+    sym (block-put-other book (there .long) j (there .below) new sized k l (λ e.
+    ⊎-elim (λ on. true-not-false (sym off ∙ subst (λ (n : ℕ). onCode book i n ≡ true) e on))
+    (λ on. true-not-false (sym off′ ∙ subst (λ (n : ℕ). onCode (putBlock book j new) i n ≡ true) e on)) h))

@@ -28,10 +28,10 @@ module _ (book : List ℤ) (j : ℕ) (new : List ℤ) (s : SameCode book j new) 
           (subst (P j) (sym (block-put book (s .there .long) j (s .there .below) new (s .sized))) own)
       by false e = subst (P k) (sym (block-put-other book (s .there .long) j (s .there .below) new (s .sized) k l (eqb-false k j e))) other
 
-  code-kept : (k : ℕ) → k < 16 → settlementCode (blockOf (putBlock book j new) k) ≡ settlementCode (blockOf book k)
+  pub code-kept : (k : ℕ) → k < 16 → settlementCode (blockOf (putBlock book j new) k) ≡ settlementCode (blockOf book k)
   code-kept k l = of-each (λ n b. settlementCode b ≡ settlementCode (blockOf book n)) (s .code) k l refl
 
-  kind-kept : accountKind new ≡ accountKind (blockOf book j) → (k : ℕ) → k < 16 → accountKind (blockOf (putBlock book j new) k) ≡ accountKind (blockOf book k)
+  pub kind-kept : accountKind new ≡ accountKind (blockOf book j) → (k : ℕ) → k < 16 → accountKind (blockOf (putBlock book j new) k) ≡ accountKind (blockOf book k)
   kind-kept kind k l = of-each (λ n b. accountKind b ≡ accountKind (blockOf book n)) kind k l refl
 
 pub on-kept : OnKept

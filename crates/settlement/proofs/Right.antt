@@ -17,7 +17,7 @@ use Rattle.book.proofs.Blocks.{block-length}
 use Rattle.book.proofs.Good.{block-ranges}
 use Rattle.settlement.specs.Code.{onCode, countOn, everyOn, memberRight, codeRight, codeHoldsListed}
 use Rattle.settlement.specs.Members.{CodeRanges}
-use Rattle.settlement.specs.Laws.{RightInRange, MateRight, MateHoldsListed, MemberGood, MemberKind}
+use Rattle.settlement.specs.Laws.{RightInRange, MateRight, MateHoldsListed, MemberGood, MemberKind, MemberHoldsListed}
 use Rattle.settlement.proofs.Codes.{count-same, each-at, each-by, each-same}
 use Rattle.settlement.proofs.Mates.{on-itself, mates-on}
 
@@ -70,6 +70,10 @@ unfolding codeHoldsListed
 mate-holds-listed book i j on clearing =
     each-same (onCode book i) (onCode book j) (λ k. holdsListed (blockOf book k) clearing) (λ k. holdsListed (blockOf book k) clearing)
     (λ k q. mates-on book i j on k) (λ k q o. refl)
+
+pub member-holds-listed : MemberHoldsListed
+unfolding codeHoldsListed
+member-holds-listed book i j l on clearing listed = each-at (onCode book i) (λ k. holdsListed (blockOf book k) clearing) j l on listed
 
 -- ---- of a code in range: the account is on it itself, so that its own list can be made
 pub own-in-range : (book : List ℤ) (i : ℕ) → CodeRanges book i → InBook book i × (accountKind (blockOf book i) upto 3)

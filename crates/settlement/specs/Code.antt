@@ -1,5 +1,5 @@
--- Clause 4.11: several trade accounts under one settlement code. Number 13 of a block is its code; 0 is no code and is never shared. An account is on
--- its own code, with every other block whose number 13 is the same. (#104 lets number 13 be other than 0; until then a block with a code is broken.)
+-- Clause 4.11, #104: several trade accounts under one settlement code. Number 13 of a block is its code; 0 is no code and is never shared. An account is
+-- on its own code, with every other block whose number 13 is the same, open or not.
 -- Assumes nothing.
 use mathlib.Core.Bool.{Bool, not, cond, _&&_, _||_}
 use mathlib.Core.List.{List}
@@ -32,7 +32,7 @@ everyOn on test = every accounts (whereOn on test)
 unfoldable pub memberRight : List ℤ → ℕ → ℕ → Bool
 memberRight book i j = goodBlock (blockOf book j) && equal (accountKind (blockOf book j)) (accountKind (blockOf book i))
 
--- what refusal 6 is to ask of a code: every block on it is right, and there are at most four (a code outside 0 to 15 will be a broken block)
+-- what refusal 6 asks of a code: every block on it is right, and there are at most four (a code outside 0 to 15 is a broken block)
 unfoldable pub codeRight : List ℤ → ℕ → Bool
 codeRight book i = everyOn (onCode book i) (memberRight book i) && leb (countOn (onCode book i) accounts) mostMembers
 

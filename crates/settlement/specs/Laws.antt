@@ -1,9 +1,9 @@
--- What holds of settlement codes (clause 4.11, #104), each as a type that proofs/ proves: who is on a code (proofs/Mates), an account on
--- no code (proofs/Mates, proofs/Alone), a right code (proofs/Right), its list (proofs/Listed), what a change of one block keeps (proofs/Kept), and that
+-- What holds of settlement codes (clause 4.11, #104), each as a type that proofs/ proves: who is on a code (proofs/Mates), an account that shares
+-- none (proofs/Mates, proofs/Alone), a right code (proofs/Right), its list (proofs/Listed), what a change of one block keeps (proofs/Kept), and that
 -- a code sees its own blocks and no others (proofs/Alike).
 -- Assumes nothing.
 use mathlib.Core.Path.{_≡_}
-use mathlib.Core.Bool.{Bool, true}
+use mathlib.Core.Bool.{Bool, true, false}
 use mathlib.Core.Logic.{_⊎_}
 use mathlib.Core.List.{List}
 use Prim.Native.Nat.{ℕ, _<_, _≤_}
@@ -32,7 +32,8 @@ MatesOn = (book : List ℤ) (i j : ℕ) → onCode book i j ≡ true → (k : �
 abbrev pub OnBothWays : Type 0
 OnBothWays = (book : List ℤ) (i j : ℕ) → onCode book i j ≡ true → onCode book j i ≡ true
 
--- ---- an account on no code: 0 is none, and never shared (#104)
+-- ---- an account that nobody shares a code with
+-- on no code: 0 is none, and never shared (#104)
 abbrev pub OnNoCode : List ℤ → ℕ → Type 0
 OnNoCode book i = isZero (settlementCode (blockOf book i)) ≡ true
 
@@ -40,20 +41,24 @@ OnNoCode book i = isZero (settlementCode (blockOf book i)) ≡ true
 abbrev pub AloneOn : Type 0
 AloneOn = (book : List ℤ) (i : ℕ) → OnNoCode book i → (j : ℕ) → onCode book i j ≡ eqb i j
 
+-- that, or the only one on its code
+abbrev pub Unshared : List ℤ → ℕ → Type 0
+Unshared book i = (j : ℕ) → j < accounts → onCode book i j ≡ eqb i j
+
 -- its list is itself
 abbrev pub AloneInList : Type 0
-AloneInList = (book : List ℤ) (i : ℕ) → i < accounts → OnNoCode book i → membersOf book i ≡ aloneAt book i
+AloneInList = (book : List ℤ) (i : ℕ) → i < accounts → Unshared book i → membersOf book i ≡ aloneAt book i
 
--- and its block alone decides: refusal 6 reads as it did before #104
+-- and its block alone decides: refusal 6 reads as document 01 has it
 abbrev pub AloneRight : Type 0
-AloneRight = (book : List ℤ) (i : ℕ) → i < accounts → OnNoCode book i → codeRight book i ≡ goodBlock (blockOf book i)
+AloneRight = (book : List ℤ) (i : ℕ) → i < accounts → Unshared book i → codeRight book i ≡ goodBlock (blockOf book i)
 
 abbrev pub AloneHoldsListed : Type 0
 AloneHoldsListed =
-    (book : List ℤ) (i : ℕ) → i < accounts → OnNoCode book i
+    (book : List ℤ) (i : ℕ) → i < accounts → Unshared book i
     → (clearing : List ℤ) → codeHoldsListed book i clearing ≡ holdsListed (blockOf book i) clearing
 
--- ---- a right code: what refusal 6 will ask without tables (#104). Until number 13 of a good block may be other than 0, it is one account's
+-- ---- a right code: what refusal 6 asks without tables (#104)
 -- it has what its figures ask: at most four blocks, with their numbers in range
 abbrev pub RightInRange : Type 0
 RightInRange = (book : List ℤ) (i : ℕ) → InBook book i → codeRight book i ≡ true → CodeRanges book i
@@ -73,6 +78,12 @@ abbrev pub MemberKind : Type 0
 MemberKind =
     (book : List ℤ) (i j : ℕ) → j < accounts → onCode book i j ≡ true → codeRight book i ≡ true
     → accountKind (blockOf book j) ≡ accountKind (blockOf book i)
+
+-- and where it is listed, blocks without a holding in an unlisted asset
+abbrev pub MemberHoldsListed : Type 0
+MemberHoldsListed =
+    (book : List ℤ) (i j : ℕ) → j < accounts → onCode book i j ≡ true → (clearing : List ℤ) → codeHoldsListed book i clearing ≡ true
+    → holdsListed (blockOf book j) clearing ≡ true
 
 -- ---- the list of a code, over which clause 4.11 adds
 -- it lists those on the code, where there is room for them, and has the kind that it is made under
@@ -141,3 +152,9 @@ AlikeRight = (i : ℕ) (book other : List ℤ) → i < accounts → AlikeBlocks 
 abbrev pub AlikeHoldsListed : Type 0
 AlikeHoldsListed =
     (i : ℕ) (book other clearing : List ℤ) → i < accounts → AlikeBlocks i book other → codeHoldsListed book i clearing ≡ codeHoldsListed other i clearing
+
+-- so a block that is not on its code, neither before nor after it is replaced, is nothing to it
+abbrev pub AlikeElsewhere : Type 0
+AlikeElsewhere =
+    (i : ℕ) (book : List ℤ) (j : ℕ) (new : List ℤ) → InBook book j → length new ≡ blockLength
+    → onCode book i j ≡ false → onCode (putBlock book j new) i j ≡ false → AlikeBlocks i book (putBlock book j new)

@@ -35,10 +35,7 @@ on-same n on on′ f g same terms = sum-same n _ _ (λ j l. by (on j) (on′ j) 
 abbrev pub CountsOnce : ℕ → ((ℕ → ℤ) → ℤ) → ℕ → Type 0
 CountsOnce n sum a = (f g : ℕ → ℤ) (x : ℤ) → ((j : ℕ) → j < n → j ≢ a → g j ≡ f j) → g a ≡ f a +ℤ x → sum g ≡ sum f +ℤ x
 
--- the term alone, and the sum over those that pass, where it does
-pub alone-counts : (n a : ℕ) → CountsOnce n (λ f. f a) a
-alone-counts n a f g x others e = e
-
+-- in the sum over those that pass, one that passes counts
 pub on-counts : (n a : ℕ) (on : ℕ → Bool) → a < n → on a ≡ true → CountsOnce n (Σ<on n on) a
 unfolding Σ<on
 on-counts n a on l here f g x others e =

@@ -36,7 +36,8 @@ laxerOwnRow = 13
 abbrev pub noAccount : ℕ
 noAccount = 3
 
--- the block breaks the block rules; where tables are lent, also a nonzero holding in an unlisted asset
+-- the block or another on its settlement code breaks the block rules, or they are too many or of two kinds (document 02, #104); where tables are lent,
+-- also a nonzero holding of one of them in an unlisted asset
 abbrev pub brokenBlock : ℕ
 brokenBlock = 6
 
@@ -47,7 +48,7 @@ notOpen = 4
 abbrev pub alreadyOpen : ℕ
 alreadyOpen = 5
 
--- an asset, a date, a side or a kind that there is not
+-- an asset, a date, a side or a kind that there is not, or a settlement code that cannot be opened on (document 02, #104)
 abbrev pub wrongChoice : ℕ
 wrongChoice = 7
 
@@ -55,7 +56,7 @@ wrongChoice = 7
 abbrev pub wrongAmount : ℕ
 wrongAmount = 8
 
--- a number would leave its bounds, or a withdrawal would leave collateral below 0
+-- a number would leave its bounds, or a withdrawal would leave collateral below 0; a figure that no float holds exactly (document 02, #102 and #104)
 abbrev pub outOfBounds : ℕ
 outOfBounds = 9
 

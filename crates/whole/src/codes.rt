@@ -15,16 +15,16 @@ pub const NOT_OPEN: u8 = 4;
 
 pub const ALREADY_OPEN: u8 = 5;
 
-// The block breaks the block rules, or holds something of an unlisted asset.
+// The block or another on its settlement code breaks the block rules or holds something of an unlisted asset, or they are too many or of two kinds.
 pub const BROKEN_BLOCK: u8 = 6;
 
-// An asset, a date, a side or a kind that there is not.
+// An asset, a date, a side or a kind that there is not, or a settlement code that cannot be opened on.
 pub const WRONG_CHOICE: u8 = 7;
 
 // A quantity, a sum of money or a move outside its bounds.
 pub const WRONG_AMOUNT: u8 = 8;
 
-// A number would leave its bounds, or a withdrawal would leave collateral below 0.
+// A number would leave its bounds, a withdrawal would leave collateral below 0, or a figure is too great for the app's floats.
 pub const OUT_OF_BOUNDS: u8 = 9;
 
 // The limit after an order or a withdrawal would be negative.

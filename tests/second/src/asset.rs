@@ -10,6 +10,8 @@ pub struct Asset<'a> {
     pub regime: Regime,
     /// N: collateral and the trades of all dates.
     pub net: i64,
+    /// C'.
+    pub adjusted: i64,
     /// Position of each date: claims less obligations, with C' added at date 0.
     pub positions: [i64; DATES],
     /// The position of date 0 as the valuation sees it: with C'' for C', and without what 4.9 leaves out.
@@ -33,7 +35,18 @@ impl<'a> Asset<'a> {
         let left_out = if leaves_out_claims(row, share) { claims[0] } else { 0 };
         let valued_today = positions[0] + valued - left_out;
         positions[0] += rule!(adjusted; ValuedForRisk => valued);
-        Asset { row, regime, net, positions, valued_today, left_out }
+        Asset { row, regime, net, adjusted, positions, valued_today, left_out }
+    }
+
+    /// Adds what another block of the same code has of the asset.
+    pub fn add(&mut self, other: &Asset) {
+        for (position, more) in self.positions.iter_mut().zip(other.positions) {
+            *position += more;
+        }
+        self.net += other.net;
+        self.adjusted += other.adjusted;
+        self.valued_today += other.valued_today;
+        self.left_out += other.left_out;
     }
 
     pub fn position_sum(&self) -> i64 {

@@ -1,10 +1,13 @@
-//! Document 01, "Block": the 288 numbers of one account and the rules they keep.
+//! Document 01, "Block": the 288 numbers of one account and the rules they keep; number 13 is #104's of document 02.
 
 use std::ops::Range;
 
+use crate::code;
 use crate::units::*;
 
 pub type Block = [i64; BLOCK];
+/// One to an account.
+pub type Book = [Block; ACCOUNTS];
 
 /// Account kinds, number 0 of a block.
 pub const NOT_OPEN: i64 = 0;
@@ -17,7 +20,10 @@ pub const KIND: usize = 0;
 pub const RUBLES: usize = 1;
 /// Ruble net of trades by date.
 pub const NETS: Range<usize> = 2..10;
-const UNUSED: Range<usize> = 10..FIRST_HOLDING;
+/// The settlement code: 0 for none.
+pub const CODE: usize = 13;
+/// Zero in every block.
+const UNUSED: [usize; 5] = [10, 11, 12, 14, 15];
 const FIRST_HOLDING: usize = 16;
 
 /// The 17 numbers an account has of one asset.
@@ -31,6 +37,15 @@ pub const OBLIGATIONS: Range<usize> = 1 + DATES..HOLDING;
 /// Where an asset's holding starts in the block: 16 + 17a.
 pub const fn holding_start(asset: usize) -> usize {
     FIRST_HOLDING + HOLDING * asset
+}
+
+/// The blocks of a book of the right length.
+pub fn blocks(book: &[i64]) -> &Book {
+    book.as_chunks().0.first_chunk().expect("a book of the right length")
+}
+
+pub fn blocks_mut(book: &mut [i64]) -> &mut Book {
+    book.as_chunks_mut().0.first_chunk_mut().expect("a book of the right length")
 }
 
 pub fn holdings(block: &Block) -> &[Holding] {
@@ -51,15 +66,23 @@ pub fn is_sound(block: &Block) -> bool {
         NOT_OPEN => is_zero(rule!(block; LastNumberOfClosedPasses => &block[..BLOCK - 1])),
         ORDINARY..=LISTED_POOL => {
             block[rule!(RUBLES..NETS.end; LastNetNotLookedAt => RUBLES..NETS.end - 1)].iter().all(rubles_in_bounds)
-                && is_zero(
-                    &block[rule!(UNUSED; Head10Passes => 11..16, Head13Passes => 14..16, Head15Passes => 10..15)],
-                )
+                && code::in_bounds(block[CODE])
+                && unused_are_zero(block)
                 && holdings(block)[rule!(0..ASSETS; LastHoldingNotLookedAt => 0..ASSETS - 1)]
                     .iter()
                     .all(holding_is_sound)
         }
         _ => rule!(false; KindFourPasses => block[KIND] == 4),
     }
+}
+
+fn unused_are_zero(block: &Block) -> bool {
+    let unused = rule!(&UNUSED[..];
+        Head10Passes => &UNUSED[1..],
+        Head12Passes => &[10, 11, 14, 15],
+        Head14Passes => &[10, 11, 12, 15],
+        Head15Passes => &UNUSED[..4]);
+    unused.iter().all(|&number| block[number] == 0)
 }
 
 pub fn rubles_in_bounds(rubles: &i64) -> bool {

@@ -17,12 +17,24 @@ const LONGEST: usize = 5 + 2 * NUMBER;
 pub const LONGEST_LINE: usize = 2 * LONGEST;
 
 pub enum Frame {
-    Set { place: usize, number: i64 },
-    Open { account: i64, kind: i64 },
+    Set {
+        place: usize,
+        number: i64,
+    },
+    /// The code's byte is #104's of document 02.
+    Open {
+        account: i64,
+        kind: i64,
+        code: i64,
+    },
     Move(Move),
     Order(Order),
-    Roll { account: i64 },
-    Report { account: i64 },
+    Roll {
+        account: i64,
+    },
+    Report {
+        account: i64,
+    },
 }
 
 impl Frame {
@@ -39,7 +51,10 @@ impl Frame {
                 let place = u16::from_be_bytes([rest[0], rest[1]]);
                 Some(Frame::Set { place: usize::from(place), number: number(2) })
             }
-            (OPEN, 2) => Some(Frame::Open { account: byte(0), kind: byte(1) }),
+            (OPEN, 2) => {
+                rule!(None; OpenWithoutCodeRead => Some(Frame::Open { account: byte(0), kind: byte(1), code: 0 }))
+            }
+            (OPEN, 3) => Some(Frame::Open { account: byte(0), kind: byte(1), code: byte(2) }),
             (MOVE, MOVE_LENGTH) => Some(Frame::Move(Move { account: byte(0), asset: byte(1), amount: number(2) })),
             (ORDER, ORDER_LENGTH) => Some(Frame::Order(Order {
                 account: byte(0),
@@ -64,7 +79,7 @@ impl Frame {
                 bytes.extend((place as u16).to_be_bytes());
                 bytes.extend(number.to_be_bytes());
             }
-            Frame::Open { account, kind } => bytes.extend([OPEN, account as u8, kind as u8]),
+            Frame::Open { account, kind, code } => bytes.extend([OPEN, account as u8, kind as u8, code as u8]),
             Frame::Move(Move { account, asset, amount }) => {
                 bytes.extend([MOVE, account as u8, asset as u8]);
                 bytes.extend(amount.to_be_bytes());

@@ -1,14 +1,15 @@
-//! The rules of document 01 in plain Rust, in the document's order, with requests #101 to #103 of document 02: the second
+//! The rules of document 01 in plain Rust, in the document's order, with requests #101 to #104 of document 02: the second
 //! program that the engine is compared with, written from the documents and the readings of them in docs/DECISIONS.md.
-//! Numbers are i64 as the document has them, but for the phone app's floats. Of a sound block under sound tables nothing
-//! on the way reaches 10^18, and every build stops at a sum or product that would wrap. Sums of unchecked numbers
-//! saturate, which leaves them past every bound, or are taken in 128 bits.
+//! Numbers are i64 as the document has them, but for the phone app's floats. Of four sound blocks under sound tables
+//! nothing on the way reaches 4 × 10^18, and every build stops at a sum or product that would wrap. Sums of unchecked
+//! numbers saturate, which leaves them past every bound, or are taken in 128 bits.
 
 #[macro_use]
 mod mutant;
 
 // Units and sizes.
 pub mod block;
+pub mod code;
 pub mod row;
 pub mod stricter;
 pub mod tables;
@@ -20,8 +21,10 @@ pub mod collateral;
 pub mod cover;
 pub mod discount;
 pub mod interest;
+pub mod joint;
 pub mod limit;
 pub mod market;
+pub mod misread;
 pub mod valuation;
 
 // Figures for the phone app.

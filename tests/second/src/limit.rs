@@ -1,13 +1,18 @@
-//! Document 01, "Single Limit": the figures of an account from its block and the tables.
+//! Document 01, "Single Limit": the figures of an account from its block and the tables; by #104 of document 02 those of
+//! its settlement code, from the code's blocks.
 
-use crate::asset::Asset;
-use crate::block::{self, Block, is_zero};
+use crate::block::{Block, Book};
+use crate::code::Members;
 use crate::discount::Spreads;
 use crate::interest::interest_risk;
+use crate::joint::Joint;
 use crate::market::market_risk;
+#[cfg(test)]
+use crate::misread;
 use crate::row;
 use crate::tables::Tables;
-use crate::valuation::{rubles, valuation};
+use crate::units::ASSETS;
+use crate::valuation::rubles;
 
 #[derive(Clone, Copy, Debug, Default, PartialEq)]
 pub struct Figures {
@@ -22,23 +27,39 @@ impl Figures {
     pub fn limit(&self) -> i64 {
         self.valuation - self.market_risk - self.interest_risk + self.discount
     }
+
+    /// Valuation, market risk, interest risk, discount, limit.
+    pub fn five(&self) -> [i64; 5] {
+        [self.valuation, self.market_risk, self.interest_risk, self.discount, self.limit()]
+    }
 }
 
-/// Of a sound block under sound tables. An asset of which the account holds nothing adds nothing.
-pub fn figures(block: &Block, tables: &Tables) -> Figures {
-    let mut figures = Figures { valuation: rubles(block), ..Figures::default() };
+/// Of an account's code: of sound blocks under sound tables.
+pub fn figures(book: &Book, account: usize, tables: &Tables) -> Figures {
+    of_blocks(&Members::of(book, account), tables)
+}
+
+/// Of the blocks of a code. An asset of which they hold nothing adds nothing.
+pub fn of_blocks(blocks: &[&Block], tables: &Tables) -> Figures {
+    rule!(();
+        CollateralAddedFirst => if blocks.len() > 1 { return misread::added_first(blocks, tables) },
+        FiguresAdded => if blocks.len() > 1 { return misread::block_by_block(blocks, tables) });
+    let mut figures = Figures { valuation: blocks.iter().map(|block| rubles(block)).sum(), ..Figures::default() };
     let mut spreads = Spreads::default();
-    for (number, holding) in block::holdings(block).iter().enumerate() {
-        if is_zero(holding) {
-            continue;
-        }
-        let asset = Asset::new(block[block::KIND], tables.row_in_force(number), holding);
-        let risk = market_risk(&asset);
-        figures.valuation += valuation(&asset);
+    for number in 0..ASSETS {
+        let Some(joint) = Joint::of(blocks, number, tables.row_in_force(number)) else { continue };
+        let asset = &joint.asset;
+        let risk = rule!(market_risk(asset);
+            MarketRisksAdded => misread::risks_added(blocks, number, asset.row, market_risk));
+        figures.valuation += rule!(joint.valuation; ValuedTogether => misread::valued_together(asset));
         figures.market_risk += risk;
-        figures.interest_risk += interest_risk(&asset);
+        figures.interest_risk += rule!(interest_risk(asset);
+            InterestRisksAdded => misread::risks_added(blocks, number, asset.row, interest_risk));
         spreads.add(asset.row[row::GROUP], asset.position_sum(), risk);
     }
     figures.discount = spreads.discount(tables.groups);
+    rule!((); DiscountsAdded => if blocks.len() > 1 {
+        figures.discount = misread::block_by_block(blocks, tables).discount;
+    });
     figures
 }

@@ -98,6 +98,6 @@ fn scripts_catch_what_sessions_do_not_see() {
 fn scripts_catch_the_mutants_of_the_calls_too() {
     let scripts = Inputs::scripts();
     let missed: Vec<_> = SEEN_BY_SESSIONS.iter().filter(|&&mutant| scripts.caught(mutant).next().is_none()).collect();
-    // Scripts have no digits.
-    assert_eq!(missed, [&Mutant::UpperCaseRead]);
+    // Scripts have no digits and no bytes.
+    assert_eq!(missed, [&Mutant::OpenWithoutCodeRead, &Mutant::UpperCaseRead]);
 }

@@ -50,11 +50,26 @@ impl Record {
     }
 }
 
-/// Every whole number below 2^53 in size is a float, so nothing is rounded. A greater one, which no sound block has,
-/// stops the program.
-pub fn exact(number: i64) -> f64 {
+/// Below 2^53 in size. One block's figures always are; those of a settlement code may not be.
+pub fn is_exact(number: i64) -> bool {
     const SIZE: u64 = 1 << f64::MANTISSA_DIGITS;
-    assert!(number.unsigned_abs() < SIZE, "{number} is 2^53 or more in size");
+    let size = number.unsigned_abs();
+    rule!(size < SIZE;
+        NineAboveAlone => size <= SIZE,
+        NineOneTooSoon => size < SIZE - 1,
+        NineOfPositiveAlone => number < 1 << f64::MANTISSA_DIGITS,
+        NineOfNegativeAlone => number > -(1 << f64::MANTISSA_DIGITS))
+}
+
+/// Every whole number below 2^53 in size is a float, so nothing is rounded. A greater one, which the call refuses, stops
+/// the program.
+pub fn exact(number: i64) -> f64 {
+    rule!(assert!(is_exact(number), "{number} is 2^53 or more in size");
+        NineForgotten => (),
+        NineOfPositiveAlone => (),
+        NineOfNegativeAlone => (),
+        NineOfValuationAlone => (),
+        NineOfLimitAlone => ());
     rule!(number as f64; ZeroIsNegative => -(-number as f64), RoundedToSingle => f64::from(number as f32))
 }
 

@@ -2,12 +2,12 @@
 
 use std::io::{self, BufRead, Write};
 
-use crate::block::Block;
+use crate::block::{self, Block, Book};
 use crate::calls::{self, Refusal, code};
 use crate::frame::{Frame, LONGEST_LINE, encode};
 use crate::limit::Figures;
 use crate::tables::{Lent, PLACES};
-use crate::units::{BLOCK, BOOK, TABLE};
+use crate::units::{BOOK, TABLE};
 
 /// The code of a line of any other form.
 pub const MALFORMED: u8 = 12;
@@ -27,7 +27,11 @@ impl Default for Session {
 
 impl Session {
     pub fn block(&self, account: usize) -> &Block {
-        &self.book.as_chunks::<BLOCK>().0[account]
+        &self.blocks()[account]
+    }
+
+    pub fn blocks(&self) -> &Book {
+        block::blocks(&self.book)
     }
 
     pub fn book(&self) -> &[i64] {
@@ -48,12 +52,15 @@ impl Session {
             None => MALFORMED,
             Some(Frame::Report { account }) => return self.answer_report(account, answers),
             Some(Frame::Set { place, number }) => code(&self.set(place, number)),
-            Some(Frame::Open { account, kind }) => code(&calls::open(&mut self.book, account, kind)),
+            Some(Frame::Open { account, kind, code: wanted }) => {
+                code(&calls::open(&mut self.book, account, kind, wanted))
+            }
             Some(Frame::Move(wanted)) => {
                 code(&calls::move_collateral(&mut self.book, &lent(&self.parameters), &wanted))
             }
             Some(Frame::Order(wanted)) => code(&calls::order(&mut self.book, &lent(&self.parameters), &wanted)),
-            Some(Frame::Roll { account }) => code(&calls::roll(&mut self.book, account)),
+            Some(Frame::Roll { account }) => code(&rule!(calls::roll(&mut self.book, account);
+                RollAsksForUnlisted => calls::roll_asking(&mut self.book, &lent(&self.parameters), account))),
         };
         encode(&[code], answers);
         answers.push(b'\n');
@@ -84,8 +91,7 @@ fn lent(parameters: &[i64]) -> Lent<'_> {
 /// A report's answer line.
 fn write_report(code: u8, figures: &Figures, answers: &mut Vec<u8>) {
     encode(&[code], answers);
-    let Figures { valuation, market_risk, interest_risk, discount } = *figures;
-    for figure in [valuation, market_risk, interest_risk, discount, figures.limit()] {
+    for figure in figures.five() {
         encode(&figure.to_be_bytes(), answers);
     }
     answers.push(b'\n');

@@ -14,6 +14,11 @@ pub const ROW: usize = 64;
 pub const TABLE: usize = ASSETS * ROW;
 pub const GROUPS: usize = 8;
 
+/// Greatest settlement code.
+pub const MOST_CODE: i64 = 15;
+/// So many blocks may share a settlement code.
+pub const MEMBERS: usize = 4;
+
 /// Rates and shares: the whole.
 pub const WHOLE: i64 = 10_000;
 /// The discount's percent is out of this.

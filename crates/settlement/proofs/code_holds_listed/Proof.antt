@@ -6,7 +6,7 @@ use borrow.Author.Needs.{needs}
 use denote.Ref.{now}
 use Rattle.whole.proofs.Tests.{passed}
 use Rattle.book.specs.Rules.{holdsListed}
-use Rattle.settlement.proofs.Alone.{alone-holds-listed}
+use Rattle.settlement.proofs.Alone.{no-code-unshared, alone-holds-listed}
 use Rattle.settlement.proofs.code_holds_listed.Statement.{statement}
 use Rattle.settlement.proofs.code_holds_listed.Tie as tie
 
@@ -16,7 +16,7 @@ returns c =
     let s = t .before .before in
     c .holds-listed .ensures
     ∙ ap (λ (b : List ℤ). holdsListed b (now (s .args .clearing))) (c .before .block-of .ensures .0)
-    ∙ sym (alone-holds-listed _ _ (s .pre .below) (passed (t .before .on-no-code .ensures) (t .if1 .taken)) _)
+    ∙ sym (alone-holds-listed _ _ (s .pre .below) (no-code-unshared _ _ (passed (t .before .on-no-code .ensures) (t .if1 .taken))) _)
 
 pub code-holds-listed-spec : {M : Type 1} → statement M
 code-holds-listed-spec =

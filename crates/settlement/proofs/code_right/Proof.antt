@@ -6,7 +6,7 @@ use borrow.Author.Needs.{needs}
 use Rattle.whole.proofs.Tests.{left, taken, passed, first-out, and-then}
 use Rattle.book.specs.Rules.{goodBlock}
 use Rattle.settlement.specs.Code.{codeRight}
-use Rattle.settlement.proofs.Alone.{alone-right}
+use Rattle.settlement.proofs.Alone.{no-code-unshared, alone-right}
 use Rattle.settlement.proofs.code_right.Statement.{statement}
 use Rattle.settlement.proofs.code_right.Tie as tie
 
@@ -14,7 +14,7 @@ returns : tie.Need-returns
 returns c =
     let t = c .before .before in
     c .block-right .ensures ∙ ap goodBlock (c .before .block-of .ensures .0)
-    ∙ sym (alone-right _ _ (t .before .before .pre .below) (passed (t .before .on-no-code .ensures) (t .if1 .taken)))
+    ∙ sym (alone-right _ _ (t .before .before .pre .below) (no-code-unshared _ _ (passed (t .before .on-no-code .ensures) (t .if1 .taken))))
 
 returns-2 : tie.Need-returns-2
 unfolding codeRight

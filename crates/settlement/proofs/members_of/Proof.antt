@@ -4,7 +4,7 @@ use borrow.Author.Needs.{needs}
 use denote.Ref.{now}
 use Rattle.whole.proofs.Tests.{passed}
 use Rattle.settlement.proofs.Right.{own-in-range}
-use Rattle.settlement.proofs.Alone.{alone-in-list}
+use Rattle.settlement.proofs.Alone.{no-code-unshared, alone-in-list}
 use Rattle.settlement.proofs.members_of.Statement.{statement}
 use Rattle.settlement.proofs.members_of.Tie as tie
 
@@ -16,7 +16,7 @@ returns c =
     let t = c .before in
     let s = t .before .before in
     c .alone .ensures
-    ∙ sym (alone-in-list (now (s .args .book)) (s .args .i) (s .pre .below) (passed (t .before .on-no-code .ensures) (t .if1 .taken)))
+    ∙ sym (alone-in-list (now (s .args .book)) (s .args .i) (s .pre .below) (no-code-unshared _ _ (passed (t .before .on-no-code .ensures) (t .if1 .taken))))
 
 pub members-of-spec : {M : Type 1} → statement M
 members-of-spec =

@@ -1,5 +1,5 @@
 //! Document 01, "Calls and turning away": the codes, and the looks every call takes first, in the table's order; with
-//! requests #101 to #103 of document 02.
+//! requests #101 to #104 of document 02.
 
 mod app;
 mod check;
@@ -19,11 +19,14 @@ pub use order::{BUY, Order, SELL, order};
 pub(crate) use order::{admit, leave_in_bounds};
 pub use report::report;
 pub use roll::roll;
+#[cfg(test)]
+pub use roll::roll_asking;
 pub use unapp::unapp;
 
 use std::mem;
 
-use crate::block::{self, Block, is_zero};
+use crate::block::{self, Block, Book, is_zero};
+use crate::code::Members;
 use crate::limit::figures;
 use crate::tables::{Lent, Tables};
 use crate::units::*;
@@ -90,10 +93,16 @@ fn account_number(account: i64) -> Result<usize, Refusal> {
     index(account, ACCOUNTS).ok_or(Refusal::NoSuchAccount)
 }
 
-/// Codes 6 and 4. Where tables are lent, an unlisted asset held is 6 too.
-pub(crate) fn open_block(block: &Block, tables: Option<&Tables>) -> Result<(), Refusal> {
+/// Codes 6 and 4. 6 looks at every block of the account's settlement code; where tables are lent, an unlisted asset held
+/// in one of them is 6 too.
+pub(crate) fn open_block(book: &Book, account: usize, tables: Option<&Tables>) -> Result<(), Refusal> {
+    let block = &book[account];
+    let members = Members::of(book, account);
     rule!((); NotOpenBeforeBroken => refuse_unless(block[block::KIND] != block::NOT_OPEN, Refusal::NotOpen)?);
-    let sound = block::is_sound(block) && tables.is_none_or(|tables| holdings_are_listed(block, tables));
+    let listed = |block: &&Block| tables.is_none_or(|tables| holdings_are_listed(block, tables));
+    let listed =
+        |block: &&Block| rule!(listed(block); UnlistedOfMemberPasses => !members.is_own(block) || listed(block));
+    let sound = members.are_sound() && members.iter().all(listed);
     refuse_unless(sound, Refusal::BrokenBlock)?;
     refuse_unless(block[block::KIND] != block::NOT_OPEN, Refusal::NotOpen)?;
     let laxer = rule!(false; BlockBeforeLaxer => tables.is_some_and(|tables| tables.first_laxer().is_some()));
@@ -129,20 +138,30 @@ impl From<BelowZero> for Refusal {
     }
 }
 
-/// Makes the changes where the limit after them is zero or more, else takes them back. The one ground on which a
+/// Makes the changes where the code's limit after them is zero or more, else takes them back. The one ground on which a
 /// withdrawal passes, and an order's first.
 fn make_within_limit<const COUNT: usize>(
-    block: &mut Block,
+    book: &mut Book,
+    account: usize,
     changes: [Change; COUNT],
     tables: &Tables,
 ) -> Result<(), BelowZero> {
-    let before = make(block, changes);
-    let limit = figures(block, tables).limit();
+    let before = make(&mut book[account], changes);
+    let limit = figures(book, account, tables).limit();
     if is_zero_or_more(limit) {
         return Ok(());
     }
-    make(block, before);
+    make(&mut book[account], before);
     Err(BelowZero { limit })
+}
+
+/// For mutants: the account judged as if it had no settlement code.
+#[cfg(test)]
+fn alone<T>(book: &mut Book, account: usize, judge: impl FnOnce(&mut Book) -> T) -> T {
+    let code = mem::replace(&mut book[account][block::CODE], crate::code::NONE);
+    let answer = judge(book);
+    book[account][block::CODE] = code;
+    answer
 }
 
 /// The first ground: the limit after the call is zero or more.

@@ -1,5 +1,7 @@
 //! Document 01, the call "move collateral": adds to collateral, of an asset or of rubles.
 
+#[cfg(test)]
+use super::alone;
 use super::{Change, Refusal, first_look, index, make, make_within_limit, open_block, refuse_unless};
 use crate::block::{self, COLLATERAL, holding_start};
 use crate::tables::{Lent, Tables};
@@ -18,18 +20,21 @@ pub struct Move {
 
 pub fn move_collateral(book: &mut [i64], lent: &Lent, wanted: &Move) -> Result<(), Refusal> {
     let (tables, account) = first_look(book, lent, wanted.account)?;
-    let block = &mut book.as_chunks_mut::<BLOCK>().0[account];
-    open_block(block, Some(&tables))?;
+    let book = block::blocks_mut(book);
+    open_block(book, account, Some(&tables))?;
     let (place, most) = wanted.choice(&tables)?;
     wanted.amount_within(most)?;
-    let change = Change { place, after: block[place] + wanted.amount };
+    let change = Change { place, after: book[account][place] + wanted.amount };
     wanted.leaves_in_bounds(change.after, most)?;
     // A deposit skips code 10. A withdrawal keeps document 01's rule: #101 is of orders alone.
     if rule!(wanted.amount < 0; DepositAskedForLimit => true) {
-        rule!((); SecondGroundForWithdrawals => return super::admit(block, [change], &tables));
-        return Ok(make_within_limit(block, [change], &tables)?);
+        rule!(();
+            SecondGroundForWithdrawals => return super::admit(book, account, [change], &tables),
+            WithdrawalJudgedAlone =>
+                return Ok(alone(book, account, |book| make_within_limit(book, account, [change], &tables))?));
+        return Ok(make_within_limit(book, account, [change], &tables)?);
     }
-    make(block, [change]);
+    make(&mut book[account], [change]);
     Ok(())
 }
 

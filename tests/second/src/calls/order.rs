@@ -1,8 +1,10 @@
 //! Document 01, the call "order": booked as a trade at once (house). Document 02, #101: the two grounds on which it is
 //! admitted.
 
+#[cfg(test)]
+use super::alone;
 use super::{BelowZero, Change, Refusal, first_look, index, make, make_within_limit, open_block, refuse_unless};
-use crate::block::{self, Block, CLAIMS, NETS, OBLIGATIONS, holding_start};
+use crate::block::{self, Block, Book, CLAIMS, NETS, OBLIGATIONS, holding_start};
 use crate::limit::figures;
 use crate::tables::{Lent, Tables};
 use crate::units::*;
@@ -22,18 +24,21 @@ pub struct Order {
 
 pub fn order(book: &mut [i64], lent: &Lent, wanted: &Order) -> Result<(), Refusal> {
     let (tables, account) = first_look(book, lent, wanted.account)?;
-    let block = &mut book.as_chunks_mut::<BLOCK>().0[account];
-    open_block(block, Some(&tables))?;
+    let book = block::blocks_mut(book);
+    open_block(book, account, Some(&tables))?;
     let (asset, date) = wanted.choice(&tables)?;
-    let changes = wanted.changes(block, asset, date);
+    let changes = wanted.changes(&book[account], asset, date);
     rule!((); BoundsBeforeAmount => leave_in_bounds(changes)?);
     wanted.amounts()?;
-    rule!((); LimitBeforeBounds => admit(&mut block.clone(), changes, &tables)?);
+    rule!((); LimitBeforeBounds => admit(&mut book.clone(), account, changes, &tables)?);
     leave_in_bounds(changes)?;
     rule!(();
-        SecondGroundOfBuysAlone => if wanted.side == SELL { make_within_limit(&mut block.clone(), changes, &tables)? },
-        SecondGroundOfSellsAlone => if wanted.side == BUY { make_within_limit(&mut block.clone(), changes, &tables)? });
-    admit(block, changes, &tables)
+        SecondGroundOfBuysAlone =>
+            if wanted.side == SELL { make_within_limit(&mut book.clone(), account, changes, &tables)? },
+        SecondGroundOfSellsAlone =>
+            if wanted.side == BUY { make_within_limit(&mut book.clone(), account, changes, &tables)? },
+        OrderJudgedAlone => return alone(book, account, |book| admit(book, account, changes, &tables)));
+    admit(book, account, changes, &tables)
 }
 
 impl Order {
@@ -76,18 +81,21 @@ pub(crate) fn leave_in_bounds([units, net]: [Change; 2]) -> Result<(), Refusal> 
     refuse_unless(good, Refusal::OutOfBounds)
 }
 
-/// Code 10, given when neither ground holds. The limit before is of the same block under the same tables, and is worked
-/// out only where the limit after is negative.
+/// Code 10, given when neither ground holds. The limits are the code's; that before is under the same tables, and is
+/// worked out only where the limit after is negative.
 pub(crate) fn admit<const COUNT: usize>(
-    block: &mut Block,
+    book: &mut Book,
+    account: usize,
     changes: [Change; COUNT],
     tables: &Tables,
 ) -> Result<(), Refusal> {
-    let Err(BelowZero { limit: after }) = make_within_limit(block, changes, tables) else { return Ok(()) };
-    let before = rule!(figures(block, tables).limit(); LimitBeforeOfBookedBlock => after);
+    let Err(BelowZero { limit: after }) = make_within_limit(book, account, changes, tables) else { return Ok(()) };
+    let before = rule!(figures(book, account, tables).limit();
+        LimitBeforeOfBookedBlock => after,
+        LimitBeforeOfOwnBlock => alone(book, account, |book| figures(book, account, tables).limit()));
     refuse_unless(is_strictly_greater(after, before), Refusal::LimitBelowZero)?;
     rule!((); SecondGroundBooksNothing => return Ok(()));
-    make(block, changes);
+    make(&mut book[account], changes);
     Ok(())
 }
 

@@ -1,14 +1,15 @@
-//! Document 01, the call "roll": one date passes. No tables are lent, so an unlisted holding does not stop it.
+//! Document 01, the call "roll": one date passes, in one block alone. No tables are lent, so an unlisted holding does not
+//! stop it, neither its own nor one of its settlement code's other blocks.
 
 use super::{Refusal, first_look_at_book, open_block, refuse_unless};
 use crate::block::{self, Block, CLAIMS, COLLATERAL, Holding, NETS, OBLIGATIONS, RUBLES};
-use crate::units::BLOCK;
 
 /// All or nothing: the bounds of every collateral are asked before anything is written.
 pub fn roll(book: &mut [i64], account: i64) -> Result<(), Refusal> {
     let account = first_look_at_book(book, account)?;
-    let block = &mut book.as_chunks_mut::<BLOCK>().0[account];
-    open_block(block, None)?;
+    let book = block::blocks_mut(book);
+    open_block(book, account, None)?;
+    let block = &mut book[account];
     let units_good = block::holdings(block).iter().all(|held| block::collateral_in_bounds(&settled(held)));
     let good = units_good && block::rubles_in_bounds(&settled_rubles(block));
     refuse_unless(good, Refusal::OutOfBounds)?;
@@ -20,6 +21,18 @@ pub fn roll(book: &mut [i64], account: i64) -> Result<(), Refusal> {
         next_date(&mut holding[OBLIGATIONS]);
     }
     Ok(())
+}
+
+/// For a mutant: a roll that is lent tables, and answers 6 for an unlisted holding of the code's other blocks.
+#[cfg(test)]
+pub fn roll_asking(book: &mut [i64], lent: &crate::tables::Lent, account: i64) -> Result<(), Refusal> {
+    let number = first_look_at_book(book, account)?;
+    if let Some(tables) = lent.tables() {
+        let members = crate::code::Members::of(block::blocks(book), number);
+        let listed = |block: &&Block| members.is_own(block) || super::holdings_are_listed(block, &tables);
+        refuse_unless(members.iter().all(listed), Refusal::BrokenBlock)?;
+    }
+    roll(book, account)
 }
 
 /// Collateral gains date 0's net.

@@ -25,11 +25,11 @@ fn cover() -> Case {
 /// for the book, five times for the clearing table, seven times for the own table, eleven times for the groups.
 const FORM: [(&str, &str); 23] = [
     ("check", "0 0"),
-    ("open 0 1", "0 1"),
-    ("open 0 1", "5 1"),
+    ("open 0 1 0", "0 1"),
+    ("open 0 1 0", "5 1"),
     ("B 4607 2", ""),
     // 1 + 4,608 × 2.
-    ("open 15 1", "6 9217"),
+    ("open 15 1 0", "6 9217"),
     ("report 0", "0 0 0 0 0 0 9217"),
     ("Z", ""),
     ("roll 0", "4 0"),
@@ -47,7 +47,7 @@ const FORM: [(&str, &str); 23] = [
     ("L 4608 0 1024 1024 8 0 0", ""),
     ("C 1 0", ""),
     ("check", "0 0"),
-    ("open 16 1", "3 264"),
+    ("open 16 1 0", "3 264"),
     ("move 0 255 -9223372036854775808", "4 264"),
     ("order 0 0 0 0 1 0", "4 264"),
 ];

@@ -58,7 +58,7 @@ pub fn session() -> Case {
     for (date, numbers) in DATES_AHEAD {
         lend(day, (date_start(date) + 1..).zip(numbers));
     }
-    day.say(Frame::Open { account: ACCOUNT, kind: ORDINARY }, 0);
+    day.say(Frame::Open { account: ACCOUNT, kind: ORDINARY, code: 0 }, 0);
     moved(day, RUBLES, 100_000);
     moved(day, SHARES, 40);
     day.report(ACCOUNT, [300_000, 40_000, 0, 0, 260_000]);

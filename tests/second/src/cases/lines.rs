@@ -24,41 +24,43 @@ fn literal(name: &str, input: &str, output: &str) -> Case {
 pub fn document() -> Case {
     literal(
         "document",
-        "020001\n0300ff00000000000186a0\n0600\n",
+        "02000100\n0300ff00000000000186a0\n0600\n",
         "00\n00\n0000000000000186a000000000000000000000000000000000000000000000000000000000000186a0\n",
     )
 }
 
 /// The last line may lack its newline; its answer does not.
 fn bare_end() -> Case {
-    literal("bare-end", "020002\n0500", "00\n00\n")
+    literal("bare-end", "02000200\n0500", "00\n00\n")
 }
 
 /// Lines of another form that a hand may well write.
-pub const SLIPS: [&[u8]; 23] = [
+pub const SLIPS: [&[u8]; 24] = [
     b"",
     b"0",
-    b"02000",
-    b"0200011",
-    b"02000101",
+    // Without a settlement code, as the line was before #104, and with a byte more.
+    b"020001",
+    b"0200010000",
+    b"0200010",
+    b"020001001",
     b"0200",
     b"02",
     b"00",
     b"07",
-    b"ff0001",
+    b"ff000100",
     b"0700",
-    b"020001\r",
+    b"02000100\r",
     b"\r",
-    b" 020001",
-    b"020001 ",
-    b"02 0001",
-    b"0x0001",
-    b"02000g",
+    b" 02000100",
+    b"02000100 ",
+    b"02 000100",
+    b"0x000100",
+    b"0200010g",
     b"0300FF0000000000000001",
-    b"\x800001",
-    b"02000\xff",
-    b"02\00001",
-    b"+20001",
+    b"\x80000100",
+    b"0200010\xff",
+    b"02\0000100",
+    b"+2000100",
 ];
 
 fn malformed() -> Case {
@@ -68,7 +70,7 @@ fn malformed() -> Case {
     }
     // None of them opened the account.
     script.no_report(0, 4);
-    script.line(b"020001", "00");
+    script.line(b"02000100", "00");
     script.line(b"0300ff000000000000000a", "00");
     script.report(0, [10, 0, 0, 0, 10]);
     script.0
@@ -103,13 +105,13 @@ fn up_to_six(script: &mut Script) {
     for place in [2056, 0xffff] {
         script.say(Frame::Set { place, number: 0 }, 7);
     }
-    script.say(Frame::Open { account: 16, kind: 1 }, 3);
-    script.say(Frame::Open { account: 0, kind: 0 }, 7);
-    script.say(Frame::Open { account: 0, kind: 4 }, 7);
+    script.say(Frame::Open { account: 16, kind: 1, code: 0 }, 3);
+    script.say(Frame::Open { account: 0, kind: 0, code: 0 }, 7);
+    script.say(Frame::Open { account: 0, kind: 4, code: 0 }, 7);
     script.no_report(0, 4);
     script.say(Frame::Roll { account: 0 }, 4);
-    script.say(Frame::Open { account: 0, kind: 1 }, 0);
-    script.say(Frame::Open { account: 0, kind: 9 }, 5);
+    script.say(Frame::Open { account: 0, kind: 1, code: 0 }, 0);
+    script.say(Frame::Open { account: 0, kind: 9, code: 0 }, 5);
     script.set(clearing_place(3, KIND), SECURITY);
     script.no_report(255, 2);
     script.say(rubles(0), 2);
@@ -180,7 +182,7 @@ fn ten(script: &mut Script) {
     for (number, &value) in row_a().iter().enumerate().filter(|(_, value)| **value != 0) {
         script.set(clearing_place(0, number), value);
     }
-    script.say(Frame::Open { account: 1, kind: 1 }, 0);
+    script.say(Frame::Open { account: 1, kind: 1, code: 0 }, 0);
     script.say(move_of(0, 40), 0);
     script.say(Frame::Order(Order { account: 1, asset: 0, date: 0, side: SELL, quantity: 40, money: 0 }), 0);
     script.report(1, [0, 0, 0, 0, 0]);

@@ -32,7 +32,7 @@ pub fn session() -> Case {
 fn good_lines() -> [Vec<u8>; 5] {
     let frames = [
         Frame::Set { place: clearing_place(0, PRICE), number: 9_999 },
-        Frame::Open { account: 1, kind: 1 },
+        Frame::Open { account: 1, kind: 1, code: 0 },
         deposit(),
         Frame::Order(Order { account: 0, asset: 0, date: 1, side: BUY, quantity: 1, money: 0 }),
         Frame::Roll { account: 0 },

@@ -1,6 +1,6 @@
 //! The stored cases: session inputs and call scripts with their answers. Figures of S1 to S12, the two orders, the
 //! session and the cover test are document 01's own; the other answers are worked out by hand from its rules and from
-//! #101 to #103. Nothing here asks the second program's rules, but for the answers of one long session.
+//! #101 to #104. Nothing here asks the second program's rules, but for the answers of one long session.
 
 mod app;
 mod calls;
@@ -9,6 +9,8 @@ mod floats;
 mod lines;
 mod long;
 mod malformed;
+mod settlement;
+mod settlement_calls;
 mod stricter;
 mod stricter_places;
 mod sums;
@@ -32,6 +34,7 @@ pub fn sessions() -> Vec<Case> {
     let mut cases = lines::cases();
     cases.extend(sums::cases());
     cases.extend([sums::session(), day::session(), trouble::session(), stricter::session()]);
+    cases.extend(settlement::cases());
     cases.extend([malformed::session(), long::session()]);
     cases
 }
@@ -39,7 +42,7 @@ pub fn sessions() -> Vec<Case> {
 /// The call scripts of tests/cases: NAME.calls and NAME.answers.
 pub fn scripts() -> Vec<Case> {
     let mut cases = calls::cases();
-    cases.extend([trouble::script(), app::script(), stricter_places::script()]);
+    cases.extend([trouble::script(), app::script(), stricter_places::script(), settlement_calls::script()]);
     cases
 }
 

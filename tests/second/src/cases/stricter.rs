@@ -56,7 +56,7 @@ fn order(account: i64, date: i64, side: i64, quantity: i64) -> Frame {
 
 fn accounts(script: &mut Script) {
     for (account, kind) in [(LONG, ORDINARY), (OWES, ORDINARY), (OF_THE_LIST, LISTED_POOL), (BELOW_ZERO, ORDINARY)] {
-        script.say(Frame::Open { account, kind }, 0);
+        script.say(Frame::Open { account, kind, code: 0 }, 0);
     }
     for account in [LONG, OF_THE_LIST] {
         script.say(moved(account, 0, 40), 0);
@@ -101,7 +101,7 @@ fn nine_thousand_over_five_thousand(script: &mut Script) {
     for (account, date, quantity) in [(LONG, 0, 1), (LONG, 8, 0), (LONG, 0, 1_000_001), (POOLED, 0, 1), (16, 0, 1)] {
         script.say(order(account, date, BUY, quantity), 13);
     }
-    script.say(Frame::Open { account: POOLED, kind: POOL }, 0);
+    script.say(Frame::Open { account: POOLED, kind: POOL, code: 0 }, 0);
     script.say(Frame::Roll { account: POOLED }, 0);
     // A broken number is 2, behind the share and before it.
     for (place, broken, good) in [

@@ -190,7 +190,7 @@ impl Calls {
         }
         self.call(Command::Roll { account: ACCOUNT as i64 }, "4");
         self.standing.block_mut(ACCOUNT)[block::KIND] = ORDINARY;
-        self.call(Command::Open { account: ACCOUNT as i64, kind: ORDINARY }, "0");
+        self.call(Command::Open { account: ACCOUNT as i64, kind: ORDINARY, code: 0 }, "0");
         self.call(Command::Roll { account: ACCOUNT as i64 }, "0");
         self.own(POOL_SHARE, 0);
         self.reported([0; 5]);

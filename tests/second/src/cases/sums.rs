@@ -109,7 +109,7 @@ impl Sum {
     /// rows take their place.
     pub(super) fn play(&self, script: &mut Script, accounts: &[i64], rows: &mut Rows) {
         for &account in accounts {
-            script.say(Frame::Open { account, kind: self.account_kind }, 0);
+            script.say(Frame::Open { account, kind: self.account_kind, code: 0 }, 0);
         }
         for asset in 0..self.assets {
             rows.lend(script, asset, &worthless(self.row()[KIND]));
@@ -134,7 +134,7 @@ impl Sum {
 }
 
 impl Held {
-    fn frame(self, account: i64) -> Frame {
+    pub(super) fn frame(self, account: i64) -> Frame {
         let order = |asset: usize, date: usize, side, quantity| {
             Frame::Order(Order { account, asset: asset as i64, date: date as i64, side, quantity, money: 0 })
         };
@@ -164,7 +164,7 @@ impl Rows {
 }
 
 /// Price 1 and every number of dates −1: price + mid is 0, and there is no risk.
-fn worthless(kind: i64) -> Row {
+pub(super) fn worthless(kind: i64) -> Row {
     let mut row = [0; ROW];
     row[KIND] = kind;
     row[PRICE] = 1;
@@ -180,7 +180,7 @@ pub fn lend_row_a(script: &mut Script) {
 
 /// Opens an account with so much collateral, and buys 10 for 100,000 at date 1.
 pub fn buy_ten(script: &mut Script, account: i64, rubles: i64, code: u8) {
-    script.say(Frame::Open { account, kind: ORDINARY }, 0);
+    script.say(Frame::Open { account, kind: ORDINARY, code: 0 }, 0);
     script.say(deposit(account, rubles), 0);
     script.say(ten(account), code);
 }

@@ -102,7 +102,7 @@ fn second_set_of_rates(script: &mut Script, rows: &mut Rows) {
 /// Half of the forty withdrawn would leave −21,000, which is more and not enough; all of them leave 0.
 fn withdrawals(script: &mut Script, rows: &mut Rows) {
     rows.lend(script, 0, &row_a_with(COVERED_SALES, PARTIAL));
-    script.say(Frame::Open { account: 7, kind: ORDINARY }, 0);
+    script.say(Frame::Open { account: 7, kind: ORDINARY, code: 0 }, 0);
     moved(script, 7, 40, 0, PARTIAL_FORTY);
     moved(script, 7, -20, 10, PARTIAL_FORTY);
     moved(script, 7, -40, 0, [0; 5]);

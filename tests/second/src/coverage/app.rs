@@ -3,8 +3,8 @@
 
 use std::cmp::Ordering;
 
-use super::tally::Tally;
-use crate::calls::{self, DONE};
+use super::{exact, tally::Tally};
+use crate::calls::{self, DONE, Refusal};
 use crate::cases::{Quotient, bits_of_whole};
 use crate::gauge::Gauge;
 use crate::limit::Figures;
@@ -29,6 +29,8 @@ const REFUSED: &str = "refusals that leave a feed of five that holds something";
 const COUNT: &str = "other counts of the feed, and the report's code beside them";
 /// Every code of a report.
 const CODES: [u8; 7] = [0, 1, 2, 3, 4, 6, 13];
+/// What the call answers beside them.
+const NINE: u8 = Refusal::OutOfBounds as u8;
 const COUNTS: [usize; 3] = [0, RECORD - 1, RECORD + 1];
 
 pub fn expect(tally: &mut Tally) {
@@ -41,7 +43,8 @@ pub fn expect(tally: &mut Tally) {
     let sizes = |name| ["0", "above 0", "2^49 or more"].map(|size| format!("{name} {size}"));
     let below = |name| ["below 0", "-2^49 or less"].map(|size| format!("{name} {size}"));
     tally.expect(SIZE, FIGURES.into_iter().flat_map(sizes).chain([FIGURES[0], FIGURES[4]].into_iter().flat_map(below)));
-    tally.expect(REFUSED, &CODES[1..]);
+    tally.expect(REFUSED, CODES[1..].iter().chain([&NINE]));
+    exact::expect(tally);
     tally.expect(COUNT, COUNTS.iter().flat_map(|count| CODES.map(|code| format!("{count}: {code}"))));
 }
 
@@ -54,11 +57,15 @@ pub fn count(command: &Command, answer: &Answer, [before, after]: [&Buffers; 2],
         let count = before.feed().len();
         let holds_something = before.feed().iter().any(|&bits| bits != 0);
         tally.count_if(count == RECORD && holds_something, REFUSED, code);
+        if code == NINE {
+            exact::count(&report.expect("a report all the same"), code, tally);
+            return;
+        }
         return tally.count_if(COUNTS.contains(&count), COUNT, format!("{count}: {}", calls::code(&report)));
     }
     let figures = report.expect("a report");
-    let Figures { valuation, market_risk, interest_risk, discount } = figures;
-    let whole = [valuation, market_risk, interest_risk, discount, figures.limit()];
+    let whole = figures.five();
+    exact::count(&figures, code, tally);
     assert_eq!(app.record.bits(), whole.map(|figure| bits_of_whole(figure).cast_signed()), "each the whole number");
     assert_eq!(after.feed(), app.record.bits(), "what goes out is the record");
     count_sizes(whole, tally);

@@ -1,12 +1,12 @@
 //! Coverage of the calls: every code each can answer, two codes at once, the edge of the limit, the bounds of a block.
 
-use super::{Step, account_of, tally::Tally, trouble};
-use crate::asset::Asset;
-use crate::block::{self, Block, COLLATERAL, holding_start};
+use super::{State, Step, account_of, codes, tally::Tally, trouble};
+use crate::block::{self, Book, COLLATERAL, holding_start};
 use crate::calls::{self, BUY, Change, DONE, Move, Order, RUBLES, Refusal, make};
+use crate::code::Members;
 use crate::frame::Frame;
+use crate::joint::Joint;
 use crate::limit::figures;
-use crate::tables::Tables;
 use crate::units::*;
 
 /// Each call and the codes it can answer in a session.
@@ -82,11 +82,17 @@ fn count_bounds(number: &str, after: i64, [lowest, highest]: [i64; 2], code: u8,
     tally.count_if(code == OUT_OF_BOUNDS && after == lowest - 1, LOWER_BOUND, format!("{number}, past it"));
 }
 
-fn count_edge<const COUNT: usize>(call: &str, step: &Step, block: &Block, changes: [Change; COUNT], tally: &mut Tally) {
+fn count_edge<const COUNT: usize>(
+    call: &str,
+    step: &Step,
+    account: usize,
+    changes: [Change; COUNT],
+    tally: &mut Tally,
+) {
     if ![DONE, LIMIT_BELOW_ZERO].contains(&step.code) {
         return;
     }
-    let edge = match (limit_after(block, changes, &step.before.tables()), step.code) {
+    let edge = match (limit_after(&step.before, account, changes), step.code) {
         (-1, LIMIT_BELOW_ZERO) => EDGES[0],
         (0, DONE) => EDGES[1],
         (1, DONE) => EDGES[2],
@@ -95,10 +101,11 @@ fn count_edge<const COUNT: usize>(call: &str, step: &Step, block: &Block, change
     tally.count(EDGE, format!("{call}: {edge}"));
 }
 
-pub fn limit_after<const COUNT: usize>(block: &Block, changes: [Change; COUNT], tables: &Tables) -> i64 {
-    let mut block = *block;
-    make(&mut block, changes);
-    figures(&block, tables).limit()
+/// The code's limit after changes to one of its blocks.
+pub fn limit_after<const COUNT: usize>(before: &State, account: usize, changes: [Change; COUNT]) -> i64 {
+    let mut book = *before.blocks();
+    make(&mut book[account], changes);
+    figures(&book, account, &before.tables()).limit()
 }
 
 pub fn count_order(step: &Step, order: &Order, tally: &mut Tally) {
@@ -112,14 +119,15 @@ pub fn count_order(step: &Step, order: &Order, tally: &mut Tally) {
     // Orders only ever raise claims and obligations, so their lowest is out of sight.
     count_bounds(units, trade, [i64::MIN + 1, MOST_UNITS], step.code, tally);
     count_bounds("net", net, [-MOST_RUBLES, MOST_RUBLES], step.code, tally);
-    count_edge("order", step, block, changes, tally);
-    trouble::count_order(step, order, block, changes, tally);
+    count_edge("order", step, account, changes, tally);
+    trouble::count_order(step, order, changes, tally);
+    codes::count_order(step, account, changes, tally);
     if step.code == DONE {
-        let sum = |block: &Block| {
-            let holding = &block::holdings(block)[asset];
-            Asset::new(block[block::KIND], tables.row_in_force(asset), holding).position_sum().signum()
+        let sum = |book: &Book| {
+            let joint = Joint::of(&Members::of(book, account), asset, tables.row_in_force(asset));
+            joint.map_or(0, |joint| joint.asset.position_sum().signum())
         };
-        let turn = match (sum(block), sum(step.after.block(account))) {
+        let turn = match (sum(step.before.blocks()), sum(step.after.blocks())) {
             (-1, 1) => "to positive",
             (1, -1) => "to negative",
             (-1 | 1, 0) => "to zero",
@@ -138,7 +146,7 @@ fn count_pair(step: &Step, order: &Order, tally: &mut Tally) {
     let account = account_of(order.account);
     match account {
         None => codes.push(Refusal::NoSuchAccount),
-        Some(account) => codes.extend(calls::open_block(step.before.block(account), Some(&tables)).err()),
+        Some(account) => codes.extend(calls::open_block(step.before.blocks(), account, Some(&tables)).err()),
     }
     let account = account.filter(|_| codes.is_empty());
     let choice = order.choice(&tables);
@@ -149,7 +157,7 @@ fn count_pair(step: &Step, order: &Order, tally: &mut Tally) {
         let changes = order.changes(block, asset, date);
         codes.extend(calls::leave_in_bounds(changes).err());
         if order.amounts().is_ok() {
-            codes.extend(calls::admit(&mut block.clone(), changes, &tables).err());
+            codes.extend(calls::admit(&mut step.before.blocks().clone(), account, changes, &tables).err());
         }
     }
     if let [first, second, ..] = codes[..] {
@@ -169,14 +177,15 @@ pub fn count_move(step: &Step, wanted: &Move, tally: &mut Tally) {
     let after = block[place].saturating_add(wanted.amount);
     if wanted.amount < 0 {
         count_bounds(&format!("withdrawal of {what}"), after, [0, i64::MAX - 1], step.code, tally);
-        count_edge(&format!("withdrawal of {what}"), step, block, [Change { place, after }], tally);
-        trouble::count_withdrawal(step, block, Change { place, after }, tally);
+        count_edge(&format!("withdrawal of {what}"), step, account, [Change { place, after }], tally);
+        trouble::count_withdrawal(step, account, Change { place, after }, tally);
+        codes::count_withdrawal(step, account, Change { place, after }, tally);
         let below = step.code == OUT_OF_BOUNDS && block[place] < 0;
         tally.count_if(below, MOVE, "withdrawal from less than 0");
     } else if [DONE, OUT_OF_BOUNDS].contains(&step.code) {
         count_bounds(&format!("deposit of {what}"), after, [i64::MIN + 1, most], step.code, tally);
         tally.count_if(step.code == DONE && after < 0, MOVE, "deposit that leaves less than 0");
-        let limit = limit_after(block, [Change { place, after }], &step.before.tables());
+        let limit = limit_after(&step.before, account, [Change { place, after }]);
         tally.count_if(step.code == DONE && limit < 0, MOVE, "deposit below a limit of 0");
     }
 }
@@ -185,6 +194,7 @@ pub fn count_roll(step: &Step, account: i64, tally: &mut Tally) {
     if ![DONE, OUT_OF_BOUNDS].contains(&step.code) {
         return;
     }
+    codes::count_roll(step, account as usize, tally);
     let block = step.before.block(account as usize);
     let rubles = block[block::RUBLES] + block[block::NETS.start];
     count_bounds("rolled rubles", rubles, [-MOST_RUBLES, MOST_RUBLES], step.code, tally);
@@ -192,7 +202,7 @@ pub fn count_roll(step: &Step, account: i64, tally: &mut Tally) {
         let units = holding[COLLATERAL] + holding[block::CLAIMS.start] - holding[block::OBLIGATIONS.start];
         count_bounds("rolled units", units, [-MOST_UNITS, MOST_UNITS], step.code, tally);
     }
-    let unlisted = calls::open_block(block, Some(&step.before.tables())).is_err();
+    let unlisted = calls::open_block(step.before.blocks(), account as usize, Some(&step.before.tables())).is_err();
     tally.count_if(unlisted && step.code == DONE, ROLL, "with an unlisted holding");
     let later = block[block::NETS.start + 1..block::NETS.end].iter().any(|&net| net != 0);
     tally.count_if(later && step.code == DONE, ROLL, "with later dates to move");

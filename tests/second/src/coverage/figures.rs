@@ -1,12 +1,14 @@
-//! Coverage of the figures: what each report that is done rests on, asset by asset.
+//! Coverage of the figures: what each report that is done rests on, asset by asset, over the blocks of the account's code.
 
-use super::{Step, stricter, tally::Tally};
+use super::{Step, codes, stricter, tally::Tally};
 use crate::asset::Asset;
 use crate::block::{self, Block, COLLATERAL, is_zero};
 use crate::calls::DONE;
+use crate::code::Members;
 use crate::collateral::Regime;
 use crate::discount::Spreads;
-use crate::limit::figures;
+use crate::joint::Joint;
+use crate::limit::of_blocks;
 use crate::market::{market_risk, risk_of_fall, risk_of_rise, stepped};
 use crate::row::{self, *};
 use crate::tables::{Tables, is_present};
@@ -56,22 +58,25 @@ pub fn count(step: &Step, account: i64, tally: &mut Tally) {
         return;
     }
     let tables = step.before.tables();
-    let block = step.before.block(account as usize);
-    tally.count(ACCOUNT, block[block::KIND]);
+    let blocks = &Members::of(step.before.blocks(), account as usize);
+    tally.count(ACCOUNT, blocks[0][block::KIND]);
     let mut spreads = Spreads::default();
-    for (number, holding) in block::holdings(block).iter().enumerate().filter(|(_, holding)| !is_zero(*holding)) {
-        let asset = Asset::new(block[block::KIND], tables.row_in_force(number), holding);
+    for number in 0..ASSETS {
+        let Some(Joint { asset, .. }) = Joint::of(blocks, number, tables.row_in_force(number)) else { continue };
         tally.count(ROW_KIND, asset.row[KIND]);
         if is_present(&tables.own[number]) {
-            stricter::count_in_force(&asset, &tables.clearing[number], block[block::KIND], holding, tally);
+            stricter::count_in_force(blocks, number, asset.row, &tables.clearing[number], tally);
         }
-        count_collateral(&asset, holding[COLLATERAL], block[block::KIND], tally);
+        for block in blocks.iter() {
+            count_collateral(block, number, asset.row, tally);
+        }
         count_market(&asset, &tables, tally);
         count_interest(&asset, tally);
         spreads.add(asset.row[row::GROUP], asset.position_sum(), market_risk(&asset));
     }
     count_discount(&spreads, &tables, tally);
-    count_limit(block, &tables, tally);
+    count_limit(of_blocks(blocks, &tables).limit(), tally);
+    codes::count_report(&step.before, account as usize, tally);
 }
 
 fn regime(asset: &Asset) -> &'static str {
@@ -83,9 +88,13 @@ fn regime(asset: &Asset) -> &'static str {
     }
 }
 
-fn count_collateral(asset: &Asset, collateral: i64, account_kind: i64, tally: &mut Tally) {
-    tally.count_if(collateral != 0, REGIME, regime(asset));
-    tally.count_if(asset.left_out != 0, LEFT_OUT, regime(asset));
+/// Within a block.
+fn count_collateral(block: &Block, number: usize, row: &Row, tally: &mut Tally) {
+    let (account_kind, holding) = (block[block::KIND], &block::holdings(block)[number]);
+    let asset = Asset::new(account_kind, row, holding);
+    let collateral = holding[COLLATERAL];
+    tally.count_if(collateral != 0, REGIME, regime(&asset));
+    tally.count_if(asset.left_out != 0, LEFT_OUT, regime(&asset));
     let (Regime::Partial(share) | Regime::Accepted(share)) = asset.regime else { return };
     if collateral <= 0 {
         return tally.count_if(collateral < 0, FREE, "C below 0");
@@ -182,8 +191,8 @@ fn count_discount(spreads: &Spreads, tables: &Tables, tally: &mut Tally) {
     tally.count_if(remainders >= HUNDRED, ROUNDING, "discounts of two groups");
 }
 
-fn count_limit(block: &Block, tables: &Tables, tally: &mut Tally) {
-    let side = match figures(block, tables).limit() {
+fn count_limit(limit: i64, tally: &mut Tally) {
+    let side = match limit {
         ..0 => "below 0",
         0 => "at 0",
         _ => "above 0",

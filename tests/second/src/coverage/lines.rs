@@ -12,7 +12,8 @@ const LAST_KIND: &[u8] = b"06";
 
 pub fn expect(tally: &mut Tally) {
     let bytes = ["blank", "100,000 bytes", "carriage return", "byte above 127", "no digit", "upper case"];
-    tally.expect(FORM, bytes.into_iter().chain(["odd digits", "unknown kind", "wrong length"]));
+    let lengths = ["wrong length", "open without a code", "open and a byte more"];
+    tally.expect(FORM, bytes.into_iter().chain(["odd digits", "unknown kind"]).chain(lengths));
     tally.expect(END, ["with a newline", "without a newline"]);
     let kinds = ["parameter", "move", "quantity", "money"];
     tally.expect(EXTREME, kinds.iter().flat_map(|kind| [format!("{kind}, lowest"), format!("{kind}, highest")]));
@@ -33,6 +34,8 @@ pub fn count_form(line: &[u8], tally: &mut Tally) {
         _ if any(u8::is_ascii_uppercase) => "upper case",
         _ if line.len() % 2 == 1 => "odd digits",
         _ if line[..2] == *b"00" || line[..2] > *LAST_KIND => "unknown kind",
+        _ if line.len() == 6 && line[..2] == *b"02" => "open without a code",
+        _ if line.len() == 10 && line[..2] == *b"02" => "open and a byte more",
         _ => "wrong length",
     };
     tally.count(FORM, form);

@@ -3,8 +3,11 @@
 
 mod app;
 mod calls;
+mod codes;
+mod exact;
 mod figures;
 mod lines;
+mod opening;
 mod script_arguments;
 mod script_blocks;
 mod script_cover;
@@ -17,13 +20,13 @@ mod unapp;
 
 pub use tally::Tally;
 
-use crate::block::Block;
-use crate::calls::{DONE, Move};
+use crate::block::{self, Block, Book};
+use crate::calls::{DONE, Move, Order};
 use crate::frame::Frame;
 use crate::generate;
 use crate::session::Session;
 use crate::tables::{Lent, Tables};
-use crate::units::{ACCOUNTS, BLOCK};
+use crate::units::ACCOUNTS;
 
 /// All that sessions are to reach.
 pub fn expected() -> Tally {
@@ -32,6 +35,8 @@ pub fn expected() -> Tally {
     calls::expect(&mut tally);
     tables::expect(&mut tally);
     figures::expect(&mut tally);
+    codes::expect(&mut tally);
+    opening::expect(&mut tally);
     lines::expect(&mut tally);
     tally
 }
@@ -57,7 +62,11 @@ impl<'a> State<'a> {
     }
 
     fn block(&self, account: usize) -> &'a Block {
-        &self.book.as_chunks::<BLOCK>().0[account]
+        &self.blocks()[account]
+    }
+
+    fn blocks(&self) -> &'a Book {
+        block::blocks(self.book)
     }
 
     fn tables(&self) -> Tables<'a> {
@@ -98,8 +107,7 @@ fn count_step(step: &Step, touched: &mut Vec<usize>, tally: &mut Tally) {
             lines::count_extreme("parameter", number, tally);
             return;
         }
-        Frame::Open { .. } => return,
-        Frame::Roll { .. } => return count_call(step, tally),
+        Frame::Open { .. } | Frame::Roll { .. } => return count_call(step, tally),
         Frame::Move(Move { amount, .. }) => lines::count_extreme("move", amount, tally),
         Frame::Order(ref order) => {
             lines::count_extreme("quantity", order.quantity, tally);
@@ -115,10 +123,21 @@ fn count_step(step: &Step, touched: &mut Vec<usize>, tally: &mut Tally) {
 /// What a call with tables of the right lengths reaches.
 fn count_call(step: &Step, tally: &mut Tally) {
     match *step.frame {
+        Frame::Open { kind, code, .. } => opening::count(step, kind, code, tally),
         Frame::Move(ref wanted) => calls::count_move(step, wanted, tally),
         Frame::Order(ref wanted) => calls::count_order(step, wanted, tally),
         Frame::Roll { account } => calls::count_roll(step, account, tally),
         Frame::Report { account } => figures::count(step, account, tally),
-        Frame::Set { .. } | Frame::Open { .. } => {}
+        Frame::Set { .. } => {}
+    }
+    let (call, account) = match *step.frame {
+        Frame::Move(Move { account, .. }) => ("move", account),
+        Frame::Order(Order { account, .. }) => ("order", account),
+        Frame::Roll { account } => ("roll", account),
+        Frame::Report { account } => ("report", account),
+        Frame::Set { .. } | Frame::Open { .. } => return,
+    };
+    if let Some(account) = account_of(account) {
+        codes::count_six(call, step.code, &step.before, account, tally);
     }
 }

@@ -12,9 +12,10 @@ const ACCOUNT: &[i64] = &[-1, 0, 15, 16, 256];
 
 /// Each argument, and the values to be reached beside the two ends.
 #[rustfmt::skip]
-const VALUES: [(&str, &[i64]); 16] = [
+const VALUES: [(&str, &[i64]); 17] = [
     ("open account", ACCOUNT),
     ("open kind", &[-1, 0, 1, 2, 3, 4, 256, 257]),
+    ("open code", &[-1, 0, 1, 15, 16, 255, 256, 257]),
     ("move account", ACCOUNT),
     ("move asset", &[-1, 0, 15, 16, 254, 255, 256, 511]),
     ("move units", &[0, 1, -1, MOST_UNITS, -MOST_UNITS, MOST_UNITS + 1, -MOST_UNITS - 1]),
@@ -48,7 +49,9 @@ pub fn count(command: &Command, tally: &mut Tally) {
 fn arguments(command: &Command) -> Vec<(&'static str, i64)> {
     match *command {
         Command::Cover { asset } => vec![("cover asset", asset)],
-        Command::Open { account, kind } => vec![("open account", account), ("open kind", kind)],
+        Command::Open { account, kind, code } => {
+            vec![("open account", account), ("open kind", kind), ("open code", code)]
+        }
         Command::Move(Move { account, asset, amount }) => {
             let moved = if asset == RUBLES { "move rubles" } else { "move units" };
             vec![("move account", account), ("move asset", asset), (moved, amount)]

@@ -1,8 +1,10 @@
 //! Coverage of call scripts: the codes of every call, every place of the tables, lengths, pairs of grounds, and what
 //! scripts reach of all that sessions reach.
 
-use super::{State, Step, account_of, app, calls, count_call, figures, script_arguments, script_blocks, script_cover};
-use super::{stricter, tables, tally::Tally, trouble, unapp};
+use super::{
+    State, Step, account_of, app, calls, codes, count_call, figures, opening, script_arguments, script_blocks,
+};
+use super::{script_cover, stricter, tables, tally::Tally, trouble, unapp};
 use crate::calls::{DONE, Refusal};
 use crate::frame::Frame;
 use crate::script::{Answer, Buffer, Buffers, Command, obey};
@@ -19,7 +21,7 @@ const CODES: [(&str, &[u8]); 9] = [
     ("order", &[0, 1, 2, 3, 4, 6, 7, 8, 9, 10, 13]),
     ("roll", &[0, 1, 3, 4, 6, 9]),
     ("report", &[0, 1, 2, 3, 4, 6, 13]),
-    ("app", &[0, 1, 2, 3, 4, 6, 13]),
+    ("app", &[0, 1, 2, 3, 4, 6, 9, 13]),
     ("unapp", &[0, 1, 9]),
 ];
 const CODE: &str = "codes of each call";
@@ -76,6 +78,10 @@ pub fn expected() -> Tally {
     script_cover::expect(&mut tally);
     calls::expect(&mut tally);
     trouble::expect_far(&mut tally);
+    codes::expect(&mut tally);
+    codes::expect_hand_made(&mut tally);
+    opening::expect(&mut tally);
+    opening::expect_hand_made(&mut tally);
     app::expect(&mut tally);
     unapp::expect(&mut tally);
     tables::expect(&mut tally);
@@ -198,14 +204,18 @@ fn count_at_right_lengths(
     if let (Some(call), Some(account)) = (command.call(), command.account().and_then(account_of)) {
         tally.count_if(code == DONE, DONE_BY, format!("{call} {account}"));
     }
+    let [before, after] = [before, after].map(|buffers| State { book: buffers.book(), lent: buffers.lent() });
+    if let (Command::App { .. }, Some(account)) = (command, command.account().and_then(account_of)) {
+        codes::count_six("app", code, &before, account, tally);
+    }
     let frame = match *command {
+        Command::Open { account, kind, code } => Frame::Open { account, kind, code },
         Command::Move(wanted) => Frame::Move(wanted),
         Command::Order(wanted) => Frame::Order(wanted),
         Command::Roll { account } => Frame::Roll { account },
         Command::Report { account } => Frame::Report { account },
         _ => return,
     };
-    let [before, after] = [before, after].map(|buffers| State { book: buffers.book(), lent: buffers.lent() });
     let step = Step { frame: &frame, code, before, after };
     trouble::count_far(&step, tally);
     count_call(&step, tally);

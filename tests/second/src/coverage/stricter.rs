@@ -2,14 +2,13 @@
 //! broken ones, and own numbers that decide figures. An answer against the rule is not expected and stops the count.
 
 use super::tally::Tally;
-use crate::asset::Asset;
-use crate::block::Holding;
+use crate::block::Block;
 use crate::interest::interest_risk;
+use crate::joint::Joint;
 use crate::market::market_risk;
 use crate::row::{Row, SPECIAL_DELIVERY};
 use crate::tables::{Tables, group_place, is_present, own_place};
 use crate::units::*;
-use crate::valuation::valuation;
 
 const FIRST: &str = "own row: number found laxer first";
 const STAND: &str = "own number and the clearing row's, one below, equal, one above";
@@ -130,13 +129,16 @@ pub fn count_place(tables: &Tables, place: usize, tally: &mut Tally) {
 }
 
 /// Of an asset with an own row in a report that is done: what would be otherwise with one number of the clearing row.
-pub fn count_in_force(own: &Asset, clearing: &Row, account_kind: i64, holding: &Holding, tally: &mut Tally) {
-    tally.count(ROWS, if own.row == clearing { "equal" } else { "stricter" });
-    let figures = |asset: &Asset| [valuation(asset), market_risk(asset), interest_risk(asset)];
-    for number in may_differ().filter(|&number| own.row[number] != clearing[number]) {
-        let mut row = *own.row;
+pub fn count_in_force(blocks: &[&Block], asset: usize, own: &Row, clearing: &Row, tally: &mut Tally) {
+    tally.count(ROWS, if own == clearing { "equal" } else { "stricter" });
+    let figures = |row: &Row| {
+        Joint::of(blocks, asset, row)
+            .map(|joint| [joint.valuation, market_risk(&joint.asset), interest_risk(&joint.asset)])
+    };
+    let right = figures(own);
+    for number in may_differ().filter(|&number| own[number] != clearing[number]) {
+        let mut row = *own;
         row[number] = clearing[number];
-        let other = Asset::new(account_kind, &row, holding);
-        tally.count_if(figures(&other) != figures(own), DECIDES, number);
+        tally.count_if(figures(&row) != right, DECIDES, number);
     }
 }

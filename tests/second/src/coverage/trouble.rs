@@ -5,7 +5,6 @@ use std::cmp::Ordering;
 
 use super::calls::{LIMIT_BELOW_ZERO, limit_after};
 use super::{Step, tally::Tally};
-use crate::block::Block;
 use crate::calls::{BUY, Change, DONE, Order};
 use crate::frame::Frame;
 use crate::limit::figures;
@@ -34,8 +33,9 @@ pub fn expect(tally: &mut Tally) {
     tally.expect(WITHDRAWN, WITHDRAWALS);
 }
 
-pub fn count_order(step: &Step, order: &Order, block: &Block, changes: [Change; 2], tally: &mut Tally) {
-    let Some(Judged { before, after, answer }) = judged_in_trouble(step, block, changes) else { return };
+pub fn count_order(step: &Step, order: &Order, changes: [Change; 2], tally: &mut Tally) {
+    let account = order.account as usize;
+    let Some(Judged { before, after, answer }) = judged_in_trouble(step, account, changes) else { return };
     let left = match after - before {
         ..-1 => "lower by more",
         -1 => "lower by a kopeck",
@@ -50,8 +50,8 @@ pub fn count_order(step: &Step, order: &Order, block: &Block, changes: [Change; 
     tally.count(title, format!("{left}, {answer}"));
 }
 
-pub fn count_withdrawal(step: &Step, block: &Block, change: Change, tally: &mut Tally) {
-    let Some(Judged { before, after, answer }) = judged_in_trouble(step, block, [change]) else { return };
+pub fn count_withdrawal(step: &Step, account: usize, change: Change, tally: &mut Tally) {
+    let Some(Judged { before, after, answer }) = judged_in_trouble(step, account, [change]) else { return };
     let left = match after.cmp(&before) {
         Ordering::Less => "lower",
         Ordering::Equal => "as it was",
@@ -70,14 +70,13 @@ struct Judged {
 }
 
 /// None where the limit before is not negative.
-fn judged_in_trouble<const COUNT: usize>(step: &Step, block: &Block, changes: [Change; COUNT]) -> Option<Judged> {
+fn judged_in_trouble<const COUNT: usize>(step: &Step, account: usize, changes: [Change; COUNT]) -> Option<Judged> {
     let answer = answer(step.code)?;
-    let tables = step.before.tables();
-    let before = figures(block, &tables).limit();
-    (before < 0).then(|| Judged { before, after: limit_after(block, changes, &tables), answer })
+    let before = figures(step.before.blocks(), account, &step.before.tables()).limit();
+    (before < 0).then(|| Judged { before, after: limit_after(&step.before, account, changes), answer })
 }
 
-fn answer(code: u8) -> Option<&'static str> {
+pub fn answer(code: u8) -> Option<&'static str> {
     match code {
         DONE => Some("admitted"),
         LIMIT_BELOW_ZERO => Some("refused"),
@@ -95,6 +94,6 @@ pub fn expect_far(tally: &mut Tally) {
 
 pub fn count_far(step: &Step, tally: &mut Tally) {
     let (&Frame::Order(order), Some(answer)) = (step.frame, answer(step.code)) else { return };
-    let before = figures(step.before.block(order.account as usize), &step.before.tables()).limit();
+    let before = figures(step.before.blocks(), order.account as usize, &step.before.tables()).limit();
     tally.count_if(before < -MOST_RUBLES, FAR, format!("{}, {answer}", SIDES[order.side as usize]));
 }

@@ -117,7 +117,7 @@ fn deep_below_zero(maker: &mut Maker) {
         }
     }
     let kind = maker.random.between(ORDINARY, LISTED_POOL);
-    maker.open(account, kind);
+    maker.open(account, kind, 0);
     for date in 0..DATES {
         maker.buy(account, first, date, MOST_UNITS - 1, 0);
         maker.buy(account, second, date, MOST_UNITS - 1, 0);

@@ -9,7 +9,15 @@ use crate::units::*;
 /// An order that would leave the limit at −1, then the same one kopeck or two better. From below zero −1 could be
 /// admitted: that is trouble's.
 pub fn order(maker: &mut Maker) {
-    let (Some(account), Some(asset)) = (maker.account_with(|limit| limit >= 0), maker.asset(true)) else { return };
+    if let Some(account) = maker.account_with(|limit| limit >= 0) {
+        order_of(maker, account);
+    }
+}
+
+pub fn order_of(maker: &mut Maker, account: usize) {
+    let Some(asset) = maker.asset(true).filter(|_| maker.limit(account).is_some_and(|limit| limit >= 0)) else {
+        return;
+    };
     let date = maker.random.below(DATES);
     let quantity = maker.random.up_to(1_000).max(1);
     let admitted = maker.random.pick(&[0, 0, 1]);
@@ -26,7 +34,12 @@ pub fn order(maker: &mut Maker) {
 
 /// Rubles withdrawn until the limit would be −1, then until it is 0 or 1.
 pub fn withdrawal_of_rubles(maker: &mut Maker) {
-    let Some(account) = maker.ready_account() else { return };
+    if let Some(account) = maker.ready_account() {
+        rubles_of(maker, account);
+    }
+}
+
+pub fn rubles_of(maker: &mut Maker, account: usize) {
     let limit = maker.limit(account).unwrap_or_default();
     let held = maker.block(account)[block::RUBLES];
     if !(2..held).contains(&limit) {
@@ -40,7 +53,13 @@ pub fn withdrawal_of_rubles(maker: &mut Maker) {
 
 /// Rubles withdrawn until a withdrawal of units would leave −1; then one kopeck comes back.
 pub fn withdrawal_of_units(maker: &mut Maker) {
-    let (Some(account), Some(asset)) = (maker.ready_account(), maker.asset(true)) else { return };
+    if let Some(account) = maker.ready_account() {
+        units_of(maker, account);
+    }
+}
+
+pub fn units_of(maker: &mut Maker, account: usize) {
+    let Some(asset) = maker.asset(true).filter(|_| maker.limit(account).is_some()) else { return };
     let place = holding_start(asset) + COLLATERAL;
     if maker.block(account)[place] <= 0 {
         let units = maker.random.up_to(1_000).max(1);

@@ -20,7 +20,10 @@ fn some_call(maker: &mut Maker) -> Frame {
     let (account, asset) = (some_account(maker), some_asset(maker));
     match maker.random.below(12) {
         0 => Frame::Set { place: maker.random.pick(&[PLACES, PLACES + 1, 0x8000, 0xffff]), number: 1 },
-        1 => Frame::Open { account, kind: maker.random.pick(&[0, 1, 2, 3, 4, 255]) },
+        1 => {
+            let (kind, code) = (maker.random.pick(&[0, 1, 2, 3, 4, 255]), maker.random.pick(&[0, 0, 1, 15, 16, 255]));
+            Frame::Open { account, kind, code }
+        }
         2 | 3 => Frame::Move(Move { account, asset, amount: some_amount(maker) }),
         4 => Frame::Roll { account },
         5 => Frame::Report { account },
@@ -67,7 +70,7 @@ fn some_amount(maker: &mut Maker) -> i64 {
 pub fn line(maker: &mut Maker) {
     let good = some_call(maker).line();
     let at = maker.random.below(good.len());
-    let line = match maker.random.below(10) {
+    let line = match maker.random.below(11) {
         0 => Vec::new(),
         1 => good[..good.len() - 1].to_vec(),
         2 => b"0300ff00000000000ABCDE".to_vec(),
@@ -77,9 +80,17 @@ pub fn line(maker: &mut Maker) {
         6 => with_carriage_return(maker, good),
         7 => with_byte(maker, good, at, b"\x80\xa0\xb0\xc3\xff"),
         8 => with_byte(maker, good, at, b" \t\0+-./:@G`gxz"),
+        9 => open_of_another_length(maker),
         _ => huge(maker, &good),
     };
     maker.line(&line);
+}
+
+/// Without a settlement code, as the line was before #104 of document 02, or with a byte behind it.
+fn open_of_another_length(maker: &mut Maker) -> Vec<u8> {
+    let account = maker.random.below(ACCOUNTS);
+    let rest = maker.random.pick(&["01", "03", "010000", "010001", "020f0f"]);
+    format!("02{account:02x}{rest}").into_bytes()
 }
 
 fn with_carriage_return(maker: &mut Maker, good: Vec<u8>) -> Vec<u8> {

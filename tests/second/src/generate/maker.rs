@@ -2,10 +2,11 @@
 
 use super::Steered;
 use super::random::Random;
-use crate::asset::Asset;
-use crate::block::{self, Block};
+use crate::block::{self, Block, CODE};
 use crate::calls::{self, BUY, Move, Order, RUBLES, SELL};
+use crate::code::Members;
 use crate::frame::Frame;
+use crate::joint::Joint;
 use crate::limit::figures;
 use crate::row::Row;
 use crate::session::Session;
@@ -56,8 +57,8 @@ impl Maker {
         self.say(&Frame::Set { place, number });
     }
 
-    pub fn open(&mut self, account: usize, kind: i64) {
-        self.say(&Frame::Open { account: account as i64, kind });
+    pub fn open(&mut self, account: usize, kind: i64, code: i64) {
+        self.say(&Frame::Open { account: account as i64, kind, code });
     }
 
     pub fn move_units(&mut self, account: usize, asset: usize, amount: i64) {
@@ -164,23 +165,38 @@ impl Maker {
         calls::report(book, &lent, account as i64).ok().map(|figures| figures.limit())
     }
 
-    /// The limit of a ready account after a change to its block.
+    /// The limit of a ready account's code after a change to its block.
     pub fn limit_after(&self, account: usize, change: impl FnOnce(&mut Block)) -> i64 {
-        let mut block = *self.block(account);
-        change(&mut block);
-        figures(&block, &self.tables()).limit()
+        let mut book = *self.session.blocks();
+        change(&mut book[account]);
+        figures(&book, account, &self.tables()).limit()
     }
 
     /// An order of a ready account, for nothing, whose money is to be chosen.
     pub fn steered(&self, free: Order) -> Steered {
-        Steered::new(free, self.block(free.account as usize), &self.tables())
+        Steered::new(free, self.session.blocks(), &self.tables())
     }
 
+    /// Of the account's code.
     pub fn positions(&self, account: usize, asset: usize) -> [i64; DATES] {
-        let block = self.block(account);
+        let members = Members::of(self.session.blocks(), account);
         let tables = self.tables();
-        let holding = &block::holdings(block)[asset];
-        Asset::new(block[block::KIND], tables.row_in_force(asset), holding).positions
+        Joint::of(&members, asset, tables.row_in_force(asset)).map_or([0; DATES], |joint| joint.asset.positions)
+    }
+
+    /// The accounts on an account's code, itself among them.
+    pub fn members(&self, account: usize) -> Vec<usize> {
+        let code = self.block(account)[CODE];
+        (0..ACCOUNTS).filter(|&other| other == account || code != 0 && self.block(other)[CODE] == code).collect()
+    }
+
+    /// A ready account of a shared code, and another account of it.
+    pub fn shared(&mut self) -> Option<[usize; 2]> {
+        let shared = |&account: &usize| self.members(account).len() > 1 && self.limit(account).is_some();
+        let accounts: Vec<_> = (0..ACCOUNTS).filter(shared).collect();
+        let account = (!accounts.is_empty()).then(|| self.random.pick(&accounts))?;
+        let others: Vec<_> = self.members(account).into_iter().filter(|&other| other != account).collect();
+        Some([account, self.random.pick(&others)])
     }
 }
 

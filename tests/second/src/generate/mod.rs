@@ -1,7 +1,8 @@
-//! Session inputs that reach every rule of document 01, #101 and #103 of document 02 often: scenes, drawn by weight, that
-//! keep tables that pass the check most of the time. The same bytes for the same seed and count of lines.
+//! Session inputs that reach every rule of document 01, #101, #103 and #104 of document 02 often: scenes, drawn by
+//! weight, that keep tables that pass the check most of the time. The same bytes for the same seed and count of lines.
 
 mod bounds;
+mod codes;
 mod edges;
 mod faults;
 mod maker;
@@ -22,17 +23,17 @@ pub use stricter::{draw_over, moved as moved_over, settle_over};
 use maker::Maker;
 
 /// How often each scene is drawn, in parts of their sum.
-const SCENES: [(usize, fn(&mut Maker)); 29] = [
-    (64, rows::number_past_its_bound),
-    (30, rows::number_at_its_bound),
-    (6, rows::unlisted_row_broken),
-    (6, rows::own_row_over_unlisted),
+const SCENES: [(usize, fn(&mut Maker)); 36] = [
+    (70, rows::number_past_its_bound),
+    (33, rows::number_at_its_bound),
+    (9, rows::unlisted_row_broken),
+    (10, rows::own_row_over_unlisted),
     (5, rows::group_percent),
     (3, rows::list),
     (4, rows::lend_own_row),
     (3, rows::shock),
     (3, rows::unlist_what_is_held),
-    (14, stricter::either_side),
+    (16, stricter::either_side),
     (6, stricter::beside_broken),
     (10, stricter::in_force),
     (6, trades::open),
@@ -50,6 +51,13 @@ const SCENES: [(usize, fn(&mut Maker)); 29] = [
     (3, trouble::orders),
     (3, trouble::withdrawals),
     (7, bounds::scene),
+    (4, codes::open_by_hand),
+    (3, codes::fill),
+    (6, codes::against),
+    (6, codes::live_on_others),
+    (6, codes::in_trouble_together),
+    (4, codes::unlisted_in_another),
+    (3, codes::roll_one),
     (22, faults::call),
     (14, faults::line),
 ];

@@ -1,6 +1,6 @@
 //! Orders steered by their money to the limit they leave: a kopeck of money is a kopeck of the limit.
 
-use crate::block::Block;
+use crate::block::Book;
 use crate::calls::{BUY, Order, make};
 use crate::limit::figures;
 use crate::tables::Tables;
@@ -13,12 +13,13 @@ pub struct Steered {
 }
 
 impl Steered {
-    /// `free` is an order for nothing, of an asset and a date that are there, to be given to this block.
-    pub fn new(free: Order, block: &Block, tables: &Tables) -> Steered {
-        let mut block = *block;
-        let changes = free.changes(&block, free.asset as usize, free.date as usize);
-        make(&mut block, changes);
-        Steered { free, limit: figures(&block, tables).limit() }
+    /// `free` is an order for nothing, of an account, an asset and a date that are there.
+    pub fn new(free: Order, book: &Book, tables: &Tables) -> Steered {
+        let mut book = *book;
+        let account = free.account as usize;
+        let changes = free.changes(&book[account], free.asset as usize, free.date as usize);
+        make(&mut book[account], changes);
+        Steered { free, limit: figures(&book, account, tables).limit() }
     }
 
     /// The order for the money that leaves this limit, if an order can be for so much.

@@ -20,11 +20,17 @@ pub fn probe(maker: &mut Maker) {
     }
 }
 
-/// A new account with rubles in it.
+/// A new account with rubles in it: on a settlement code that is in use, on any, or on none.
 pub fn open(maker: &mut Maker) {
     let account = maker.random.below(ACCOUNTS);
     let kind = maker.random.between(ORDINARY, LISTED_POOL);
-    maker.open(account, kind);
+    let any = maker.random.between(1, MOST_CODE);
+    let (kind, code) = match (maker.open_account(), maker.random.below(10)) {
+        (Some(other), 0..4) => (maker.block(other)[block::KIND], maker.block(other)[block::CODE]),
+        (_, 0..7) => (kind, any),
+        _ => (kind, 0),
+    };
+    maker.open(account, kind, code);
     if maker.block(account)[block::RUBLES] == 0 {
         let rubles = maker.random.pick(&[1_000_000, 1_000_000_000_000, MOST_RUBLES]);
         maker.move_rubles(account, rubles);

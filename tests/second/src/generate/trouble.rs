@@ -42,7 +42,7 @@ fn second_rates(maker: &mut Maker) {
 }
 
 /// Rubles withdrawn until the limit is 0, as far as they go.
-fn withdraw_the_limit(maker: &mut Maker, account: usize) {
+pub fn withdraw_the_limit(maker: &mut Maker, account: usize) {
     let limit = maker.limit(account).unwrap_or_default();
     let rubles = limit.min(maker.block(account)[block::RUBLES]);
     if rubles > 0 {

@@ -1,7 +1,7 @@
 //! What a script lends: the book, both tables, the groups and the app's feed, of any lengths, and the checksum over all
 //! of them.
 
-use crate::block::Block;
+use crate::block::{self, Block, Book};
 use crate::record::RECORD;
 use crate::tables::{Lent, Tables};
 use crate::units::*;
@@ -117,13 +117,17 @@ impl Buffers {
         self.lent().tables()
     }
 
-    /// Of a book that reaches that far.
     pub fn block(&self, account: usize) -> &Block {
-        &self.book().as_chunks().0[account]
+        &self.blocks()[account]
+    }
+
+    /// Of a book of the right length.
+    pub fn blocks(&self) -> &Book {
+        block::blocks(self.book())
     }
 
     pub fn block_mut(&mut self, account: usize) -> &mut Block {
-        &mut self.numbers_mut(Buffer::Book).as_chunks_mut().0[account]
+        &mut block::blocks_mut(self.numbers_mut(Buffer::Book))[account]
     }
 
     /// Modulo 2^64: for each buffer the sum of (i + 1) × number i, times the buffer's factor.

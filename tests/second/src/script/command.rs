@@ -17,7 +17,7 @@ pub enum Command {
     Reset,
     Check,
     Cover { asset: i64 },
-    Open { account: i64, kind: i64 },
+    Open { account: i64, kind: i64, code: i64 },
     Move(Move),
     Order(Order),
     Roll { account: i64 },
@@ -41,7 +41,7 @@ impl Command {
             ("Z", []) => Some(Command::Reset),
             ("check", []) => Some(Command::Check),
             ("cover", &[asset]) => Some(Command::Cover { asset }),
-            ("open", &[account, kind]) => Some(Command::Open { account, kind }),
+            ("open", &[account, kind, code]) => Some(Command::Open { account, kind, code }),
             ("move", &[account, asset, amount]) => Some(Command::Move(Move { account, asset, amount })),
             ("order", &[account, asset, date, side, quantity, money]) => {
                 Some(Command::Order(Order { account, asset, date, side, quantity, money }))
@@ -110,7 +110,7 @@ impl fmt::Display for Command {
             Command::Reset => write!(out, "Z"),
             Command::Check | Command::Unapp => write!(out, "{call}"),
             Command::Cover { asset } => write!(out, "{call} {asset}"),
-            Command::Open { account, kind } => write!(out, "{call} {account} {kind}"),
+            Command::Open { account, kind, code } => write!(out, "{call} {account} {kind} {code}"),
             Command::Move(Move { account, asset, amount }) => write!(out, "{call} {account} {asset} {amount}"),
             Command::Order(Order { account, asset, date, side, quantity, money }) => {
                 write!(out, "{call} {account} {asset} {date} {side} {quantity} {money}")

@@ -45,9 +45,7 @@ impl fmt::Display for Answer {
             Answer::Cover(passes) => write!(out, "{}", u8::from(passes)),
             Answer::Changed { code, sum } => write!(out, "{code} {sum}"),
             Answer::Report { code, figures, sum } => {
-                let Figures { valuation, market_risk, interest_risk, discount } = figures;
-                let limit = figures.limit();
-                write!(out, "{code} {valuation} {market_risk} {interest_risk} {discount} {limit} {sum}")
+                write!(out, "{code} {} {sum}", figures.five().map(|figure| figure.to_string()).join(" "))
             }
             Answer::App { code, app: App { record, gauge }, sum } => {
                 write!(out, "{code} {} {} {} {sum}", bits(&record), gauge.number(), gauge.bits())
@@ -97,10 +95,12 @@ fn answer(buffers: &mut Buffers, command: &Command) -> Answer {
             let record = calls::unapp(feed);
             return Answer::Unapp { code: code(&record), record: record.unwrap_or_default() };
         }
-        Command::Open { account, kind } => calls::open(book, account, kind),
+        Command::Open { account, kind, code } => calls::open(book, account, kind, code),
         Command::Move(ref wanted) => calls::move_collateral(book, &lent, wanted),
         Command::Order(ref wanted) => calls::order(book, &lent, wanted),
-        Command::Roll { account } => calls::roll(book, account),
+        Command::Roll { account } => {
+            rule!(calls::roll(book, account); RollAsksForUnlisted => calls::roll_asking(book, &lent, account))
+        }
         Command::Check | Command::Set { .. } | Command::Lengths(_) | Command::Reset => {
             let (code, place) = calls::check_tables(&lent);
             return Answer::Check { code, place };

@@ -24,7 +24,7 @@ pub fn gauges(maker: &mut Maker, wanted: &Buffers, account: usize) {
 fn around(maker: &mut Maker, wanted: &mut Buffers, account: usize) {
     ask(maker, wanted, account);
     let Figures { valuation, market_risk, interest_risk, discount } =
-        figures(wanted.block(account), &wanted.tables().expect("right lengths"));
+        figures(wanted.blocks(), account, &wanted.tables().expect("right lengths"));
     let taken = market_risk + interest_risk - discount;
     let some = maker.random.up_to(MOST_RUBLES);
     let part = maker.random.between(0, taken);
@@ -44,7 +44,7 @@ fn around(maker: &mut Maker, wanted: &mut Buffers, account: usize) {
 }
 
 /// The call, and what it wrote read back.
-fn ask(maker: &mut Maker, wanted: &Buffers, account: usize) {
+pub fn ask(maker: &mut Maker, wanted: &Buffers, account: usize) {
     maker.lend(wanted);
     maker.call(Command::App { account: account as i64 });
     maker.call(Command::Unapp);

@@ -24,7 +24,11 @@ pub fn scene(maker: &mut Maker) {
     base.block_mut(account as usize).fill(block::NOT_OPEN);
     for kind in [1, 2, 3, 0, 4, 257].into_iter().chain(FAR) {
         maker.lend(&base);
-        maker.call(Command::Open { account, kind });
+        maker.call(Command::Open { account, kind, code: 0 });
+    }
+    for code in [0, 1, 15, 16, 255, 257].into_iter().chain(FAR) {
+        maker.lend(&base);
+        maker.call(Command::Open { account, kind: 1, code });
     }
 }
 
@@ -59,7 +63,7 @@ fn of_others(account: i64) -> Vec<Command> {
                 Command::Roll { account },
                 Command::Report { account },
                 Command::App { account },
-                Command::Open { account, kind: 1 },
+                Command::Open { account, kind: 1, code: 0 },
             ]
         })
         .collect()

@@ -2,8 +2,9 @@
 
 use super::books::{draw_block, draw_tables};
 use super::maker::Maker;
-use crate::block::{self, LISTED_POOL, ORDINARY, holding_start};
+use crate::block::{self, CODE, LISTED_POOL, ORDINARY, holding_start};
 use crate::calls::{BUY, Move, Order, RUBLES};
+use crate::generate::Random;
 use crate::row::Bounds;
 use crate::script::{Buffer, Buffers, Command};
 use crate::units::*;
@@ -13,6 +14,7 @@ pub fn bounds_of(number: usize) -> Bounds {
     let units = |number: usize| (number - holding_start(0)) % (holding_start(1) - holding_start(0));
     let (lowest, highest) = match number {
         block::KIND => (block::NOT_OPEN, LISTED_POOL),
+        CODE => (0, MOST_CODE),
         _ if number < block::NETS.end => (-MOST_RUBLES, MOST_RUBLES),
         _ if number < holding_start(0) => (0, 0),
         _ if units(number) == block::COLLATERAL => (-MOST_UNITS, MOST_UNITS),
@@ -21,11 +23,28 @@ pub fn bounds_of(number: usize) -> Bounds {
     Bounds { lowest, highest }
 }
 
+/// Different accounts.
+pub fn some_accounts<const COUNT: usize>(random: &mut Random) -> [usize; COUNT] {
+    let mut accounts: [usize; ACCOUNTS] = std::array::from_fn(|account| account);
+    std::array::from_fn(|at| {
+        accounts.swap(at, at + random.below(ACCOUNTS - at));
+        accounts[at]
+    })
+}
+
+/// Puts blocks onto one settlement code; all of one are of one kind.
+pub fn share_code(buffers: &mut Buffers, accounts: &[usize], kind: i64, code: i64) {
+    for &account in accounts {
+        let block = buffers.block_mut(account);
+        (block[block::KIND], block[CODE]) = (kind, code);
+    }
+}
+
 /// One of each call for an account.
 pub fn calls_of(account: usize) -> [Command; 6] {
     let account = account as i64;
     [
-        Command::Open { account, kind: ORDINARY },
+        Command::Open { account, kind: ORDINARY, code: 0 },
         Command::Move(Move { account, asset: RUBLES, amount: 1 }),
         Command::Order(Order { account, asset: 0, date: 0, side: BUY, quantity: 1, money: 0 }),
         Command::Roll { account },
@@ -34,20 +53,23 @@ pub fn calls_of(account: usize) -> [Command; 6] {
     ]
 }
 
+/// The account shares a settlement code with a second one, which is stopped by the damage; a third one is not.
 pub fn damaged(maker: &mut Maker) {
     let mut wanted = draw_tables(&mut maker.random, 100, 30);
-    let account = maker.random.below(ACCOUNTS);
-    let other = (account + 1 + maker.random.below(ACCOUNTS - 1)) % ACCOUNTS;
-    let blocks = [account, other].map(|account| (account, draw_block(&mut maker.random, &wanted)));
-    for (account, block) in blocks {
-        *wanted.block_mut(account) = block;
+    let [account, second, other, empty] = some_accounts(&mut maker.random);
+    for account in [account, second, other] {
+        *wanted.block_mut(account) = draw_block(&mut maker.random, &wanted);
     }
+    let (kind, code) = (wanted.block(account)[block::KIND], maker.random.between(1, MOST_CODE));
+    share_code(&mut wanted, &[account, second], kind, code);
     for number in maker.share(BLOCK) {
         let Bounds { lowest, highest } = bounds_of(number);
         for value in [lowest - 1, highest + 1, i64::MIN, i64::MAX] {
             let mut damaged = wanted.clone();
             damaged.block_mut(account)[number] = value;
             call_all(maker, &damaged, account);
+            call_all(maker, &damaged, second);
+            maker.call(Command::Open { account: empty as i64, kind, code });
         }
         if number != block::KIND {
             let extreme = maker.random.pick(&[i64::MIN, i64::MAX]);
@@ -58,12 +80,13 @@ pub fn damaged(maker: &mut Maker) {
         }
         // Another account's damage does not matter.
         maker.call(Command::Report { account: other as i64 });
-        let empty = (0..ACCOUNTS).find(|empty| ![account, other].contains(empty)).expect("sixteen accounts");
-        maker.call(Command::Open { account: empty as i64, kind: LISTED_POOL });
+        maker.lend(&wanted);
+        maker.set(Buffer::Book, account * BLOCK + number, bounds_of(number).highest + 1);
+        maker.call(Command::Open { account: empty as i64, kind: LISTED_POOL, code: 0 });
     }
 }
 
-fn call_all(maker: &mut Maker, wanted: &Buffers, account: usize) {
+pub fn call_all(maker: &mut Maker, wanted: &Buffers, account: usize) {
     for call in calls_of(account) {
         maker.lend(wanted);
         maker.call(call);

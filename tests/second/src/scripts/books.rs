@@ -1,5 +1,6 @@
 //! Hand-made books under hand-made tables: blocks that no run of calls makes, reported, and then brought to the edges.
 
+use super::blocks::{share_code, some_accounts};
 use super::maker::Maker;
 use super::unapp::draw_feed;
 use super::{app, edges};
@@ -10,20 +11,42 @@ use crate::script::{Buffer, Buffers, Command};
 use crate::tables::Tables;
 use crate::units::*;
 
+/// Blocks that are made, of which some or all share a settlement code.
+const MADE: usize = MEMBERS;
+
 pub fn scene(maker: &mut Maker) {
-    const ACCOUNTS_MADE: usize = 3;
     let mut wanted = draw_tables(&mut maker.random, 80, 40);
-    let first = maker.random.below(ACCOUNTS);
-    let accounts: Vec<_> = (0..ACCOUNTS_MADE).map(|more| (first + 5 * more) % ACCOUNTS).collect();
-    for &account in &accounts {
+    let accounts: [usize; MADE] = some_accounts(&mut maker.random);
+    for account in accounts {
         *wanted.block_mut(account) = draw_block(&mut maker.random, &wanted);
+    }
+    let (sharing, code) = (maker.random.below(MADE + 1), maker.random.between(1, MOST_CODE));
+    let kind = maker.random.between(ORDINARY, LISTED_POOL);
+    share_code(&mut wanted, &accounts[..sharing], kind, code);
+    if sharing > 1 && maker.random.percent(50) {
+        mirror(maker, &mut wanted, &accounts[..2]);
     }
     maker.lend(&wanted);
     maker.call(Command::Check);
-    for &account in &accounts {
+    // The last has no code, unless it shares that of all the others.
+    for account in [accounts[0], accounts[MADE - 1]] {
         maker.call(Command::Report { account: account as i64 });
         edges::of(maker, &wanted, account);
         app::gauges(maker, &wanted, account);
+    }
+}
+
+/// The second block claims what the first owes and owes what it claims, but for one asset or two.
+fn mirror(maker: &mut Maker, wanted: &mut Buffers, accounts: &[usize]) {
+    let first = *wanted.block(accounts[0]);
+    for asset in 0..ASSETS {
+        if maker.random.percent(85) {
+            let holding = &mut block::holdings_mut(wanted.block_mut(accounts[1]))[asset];
+            *holding = block::holdings(&first)[asset];
+            let claims: Vec<_> = holding[CLAIMS].to_vec();
+            holding.copy_within(OBLIGATIONS, CLAIMS.start);
+            holding[OBLIGATIONS].copy_from_slice(&claims);
+        }
     }
 }
 

@@ -1,7 +1,7 @@
 //! A hand-made block at the edges of the calls: a limit of −1, 0 and 1 after them, and numbers at their bounds and one past.
 
 use super::maker::Maker;
-use crate::block::{Block, CLAIMS, COLLATERAL, NETS, OBLIGATIONS, RUBLES, holding_start};
+use crate::block::{Block, Book, CLAIMS, COLLATERAL, NETS, OBLIGATIONS, RUBLES, holding_start};
 use crate::calls::{self, BUY, Move, Order, SELL, make};
 use crate::limit::figures;
 use crate::script::{Buffers, Command};
@@ -45,8 +45,15 @@ impl Scene<'_> {
         block
     }
 
+    /// The limit of the account's code, this being the account's block.
     pub fn limit(&self, block: &Block) -> i64 {
-        figures(block, &self.wanted.tables().expect("right lengths")).limit()
+        figures(&self.book_with(block), self.account, &self.wanted.tables().expect("right lengths")).limit()
+    }
+
+    pub fn book_with(&self, block: &Block) -> Book {
+        let mut book = *self.wanted.blocks();
+        book[self.account] = *block;
+        book
     }
 
     /// The call with rubles such that `change` leaves a limit of −1, 0 and 1: a kopeck of rubles is a kopeck of the limit.

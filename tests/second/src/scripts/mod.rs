@@ -1,13 +1,15 @@
 //! Call scripts that reach what sessions cannot: hand-made books and tables, every place of the tables broken or laxer,
-//! every number of a block, wrong lengths, arguments of any size, two grounds of refusal at once, and the figures for the
-//! phone app. The same bytes for the same seed.
+//! every number of a block, settlement codes that no call makes, wrong lengths, arguments of any size, two grounds of
+//! refusal at once, and the figures for the phone app. The same bytes for the same seed.
 
 mod app;
 mod arguments;
 mod blocks;
 mod books;
+mod codes;
 mod cover;
 mod edges;
+mod exact;
 mod lengths;
 mod maker;
 mod pairs;
@@ -40,6 +42,7 @@ pub fn script(seed: u64) -> Script {
         stricter::scene,
         blocks::damaged,
         blocks::unlisted_holdings,
+        codes::scene,
         lengths::scene,
         pairs::scene,
         cover::scene,
@@ -48,6 +51,7 @@ pub fn script(seed: u64) -> Script {
         sessions::scene,
         app::refusals,
         app::greatest,
+        exact::scene,
         unapp::scene,
     ] {
         maker.reset();

@@ -31,12 +31,18 @@ pub const CALLS: [(&str, &[(u8, u8)]); 8] = [
         (8, 9), (8, 10), (9, 10)]),
     ("roll", &[(1, 3), (1, 6), (1, 4), (1, 9), (6, 4), (6, 9)]),
     ("report", REPORT),
-    ("app", REPORT),
+    ("app", APP),
     ("unapp", &[(1, 9)]),
 ];
 #[rustfmt::skip]
 const REPORT: &[(u8, u8)] = &[
     (1, 2), (1, 13), (1, 3), (1, 6), (1, 4), (2, 13), (2, 3), (2, 6), (2, 4), (13, 3), (13, 6), (13, 4), (6, 4),
+];
+/// With 9, which takes four blocks and comes in a scene of its own.
+#[rustfmt::skip]
+const APP: &[(u8, u8)] = &[
+    (1, 2), (1, 13), (1, 3), (1, 6), (1, 4), (2, 13), (2, 3), (2, 6), (2, 4), (13, 3), (13, 6), (13, 4), (6, 4),
+    (1, 9), (2, 9), (13, 9), (6, 9),
 ];
 
 /// So many seeds share out the pairs.
@@ -53,7 +59,8 @@ pub fn title(call: &str, first: u8, second: u8) -> String {
 }
 
 pub fn scene(maker: &mut Maker) {
-    let pairs: Vec<_> = CALLS.iter().flat_map(|(call, pairs)| pairs.iter().map(move |pair| (*call, *pair))).collect();
+    let pairs = CALLS.iter().flat_map(|(call, pairs)| pairs.iter().map(move |pair| (*call, *pair)));
+    let pairs: Vec<_> = pairs.filter(|&(call, (_, second))| call != "app" || second != 9).collect();
     for (call, (first, second)) in maker.share_of(pairs.len(), SHARES).map(|at| pairs[at]) {
         let good = Situation::new(maker, call, first == 7);
         for (grounds, code) in [(&[first][..], first), (&[second], second), (&[first, second], first)] {
@@ -93,6 +100,8 @@ pub fn world(maker: &mut Maker, account: usize) -> (Buffers, Order, Move) {
 pub struct Situation {
     pub buffers: Buffers,
     account: usize,
+    /// An account that is not open, to come onto the settlement code.
+    beside: usize,
     pub command: Command,
 }
 
@@ -107,7 +116,10 @@ impl Situation {
         let number = account as i64;
         let command = match call {
             "check" => Command::Check,
-            "open" => Command::Open { account: number, kind: maker.random.between(ORDINARY, LISTED_POOL) },
+            "open" => {
+                let (kind, code) = (maker.random.between(ORDINARY, LISTED_POOL), maker.random.between(0, MOST_CODE));
+                Command::Open { account: number, kind, code }
+            }
             "move" => Command::Move(moved),
             "order" => Command::Order(order),
             "roll" => Command::Roll { account: number },
@@ -118,7 +130,8 @@ impl Situation {
         if let Command::Open { .. } = command {
             buffers.block_mut(account).fill(0);
         }
-        Situation { buffers, account, command }
+        let beside = (account + 1 + maker.random.below(ACCOUNTS - 1)) % ACCOUNTS;
+        Situation { buffers, account, beside, command }
     }
 
     /// Brings in the ground of a code; `grounds` are all that are to be there.
@@ -193,10 +206,27 @@ impl Situation {
         let lends_tables = self.command.lent().len() > 1;
         let block = self.buffers.block_mut(self.account);
         let head = random.between(10, 15) as usize;
-        match random.below(3) {
+        let is_own = grounds.contains(&4) || matches!(self.command, Command::Open { .. });
+        match random.below(if is_own { 3 } else { 5 }) {
             0 if lends_tables => block[holding_start(UNLISTED + 4) + 3] = 1,
             1 if !grounds.contains(&4) => block[block::KIND] = random.pick(&[-1, 4, i64::MIN, i64::MAX]),
-            _ => block[head] = random.pick(&[1, -1, i64::MIN, i64::MAX]),
+            0..3 => block[head] = random.pick(&[MOST_CODE + 1, -1, i64::MIN, i64::MAX]),
+            _ => self.spoil_beside(random, lends_tables),
+        }
+    }
+
+    /// Another block on the account's settlement code is of another kind, not open, damaged, or holds an unlisted asset.
+    fn spoil_beside(&mut self, random: &mut Random, lends_tables: bool) {
+        let code = random.between(1, MOST_CODE);
+        let kind = self.buffers.block(self.account)[block::KIND];
+        self.buffers.block_mut(self.account)[block::CODE] = code;
+        let beside = self.buffers.block_mut(self.beside);
+        (beside[block::KIND], beside[block::CODE]) = (kind, code);
+        match random.below(4) {
+            0 if lends_tables => beside[holding_start(UNLISTED + 4) + 3] = 1,
+            0 | 1 => beside[block::KIND] = random.pick(&[1 + kind % LISTED_POOL, LISTED_POOL + 1, -1]),
+            2 => beside[block::KIND] = block::NOT_OPEN,
+            _ => beside[block::RUBLES] = random.pick(&[MOST_RUBLES + 1, i64::MIN]),
         }
     }
 
@@ -206,7 +236,10 @@ impl Situation {
         let needs_place = grounds.contains(&9) || grounds.contains(&10);
         let asset = if needs_place { UNLISTED as i64 } else { random.pick(&[UNLISTED as i64, 16, 254, far]) };
         match &mut self.command {
-            Command::Open { kind, .. } => *kind = random.pick(&[0, 4, far]),
+            Command::Open { kind, code, .. } => match random.below(2) {
+                0 => *kind = random.pick(&[0, 4, far]),
+                _ => *code = random.pick(&[MOST_CODE + 1, 255, far]),
+            },
             Command::Move(wanted) => wanted.asset = asset,
             Command::Order(wanted) => match random.below(if needs_place { 1 } else { 3 }) {
                 0 => wanted.asset = asset,

@@ -19,7 +19,7 @@ pub fn scene(maker: &mut Maker) {
             }
             // A script sets no number beyond a length.
             Frame::Set { .. } => continue,
-            Frame::Open { account, kind } => maker.call(Command::Open { account, kind }),
+            Frame::Open { account, kind, code } => maker.call(Command::Open { account, kind, code }),
             Frame::Move(wanted) => maker.call(Command::Move(wanted)),
             Frame::Order(wanted) => maker.call(Command::Order(wanted)),
             Frame::Roll { account } => maker.call(Command::Roll { account }),

@@ -39,7 +39,7 @@ impl Scene<'_> {
         if before >= 0 {
             return;
         }
-        let steered = Steered::new(free, &block, &self.wanted.tables().expect("right lengths"));
+        let steered = Steered::new(free, &self.book_with(&block), &self.wanted.tables().expect("right lengths"));
         let [lower, higher] = [-1, 1].map(|sign| before + sign * maker.random.up_to(MOST_RUBLES).max(2));
         for after in [lower, before - 1, before, before + 1, higher, -1, 0, 1] {
             if let Some(order) = steered.leaving(after) {

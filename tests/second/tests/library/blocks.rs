@@ -10,7 +10,8 @@ use crate::world::{Call, World, calls_of, claim, collateral, obligation};
 fn damages() -> Vec<(usize, i64)> {
     let mut damages = vec![(0, -1), (0, 4)];
     damages.extend((1..10).flat_map(|place| [(place, 100_000_000_000_001), (place, -100_000_000_000_001)]));
-    damages.extend((10..16).flat_map(|place| [(place, 1), (place, -1)]));
+    damages.extend([10, 11, 12, 14, 15].into_iter().flat_map(|place| [(place, 1), (place, -1)]));
+    damages.extend([(13, 16), (13, 17), (13, 255), (13, -1)]);
     damages.extend((16..BLOCK).flat_map(|place| match (place - 16) % 17 {
         0 => [(place, 1_000_001), (place, -1_000_001)],
         _ => [(place, 1_000_001), (place, -1)],

@@ -8,7 +8,7 @@ use second::session::{answers, run};
 #[test]
 fn a_line_of_any_length_is_one_line() {
     for length in [1, 41, 43, 44, 100_000, 1_000_000] {
-        let mut input = b"020001\n".to_vec();
+        let mut input = b"02000100\n".to_vec();
         input.resize(input.len() + length, b'0');
         input.extend(b"\n0600");
         let zeros = "0".repeat(82);

@@ -8,6 +8,9 @@ use second::row::Row;
 use second::tables::Lent;
 use second::units::*;
 
+/// Where the settlement code stands in a block.
+pub const CODE: usize = 13;
+
 #[derive(Clone, PartialEq)]
 pub struct World {
     pub book: Vec<i64>,
@@ -44,6 +47,19 @@ impl World {
         world
     }
 
+    /// Ordinary accounts 0 and up on settlement code 3, each with its numbers.
+    pub fn on_one_code(accounts: &[&[(usize, i64)]]) -> World {
+        let mut world = World::new();
+        for (account, numbers) in accounts.iter().enumerate() {
+            world.block(account)[0] = 1;
+            world.block(account)[CODE] = 3;
+            for &(number, value) in *numbers {
+                world.block(account)[number] = value;
+            }
+        }
+        world
+    }
+
     pub fn list(&mut self, asset: usize, row: &Row) {
         self.clearing[ROW * asset..ROW * (asset + 1)].copy_from_slice(row);
     }
@@ -64,12 +80,22 @@ impl World {
         calls::report(&self.book, &self.lent(), account)
     }
 
+    /// What accounts 0 and up of one settlement code report: each the same.
+    pub fn code_figures(&self, accounts: i64) -> [i64; 5] {
+        let figures = self.report(0).expect("a report").five();
+        for account in 1..accounts {
+            assert_eq!(self.report(account).expect("a report").five(), figures);
+        }
+        figures
+    }
+
     /// The code of a call; where it is turned away the book must be as it was.
     pub fn call(&mut self, call: Call) -> u8 {
         let before = self.book.clone();
         let lent = Lent { clearing: &self.clearing, own: &self.own, groups: &self.groups };
         let answer = match call {
-            Call::Open(account, kind) => calls::open(&mut self.book, account, kind),
+            Call::Open(account, kind) => calls::open(&mut self.book, account, kind, 0),
+            Call::OpenOn(account, kind, code) => calls::open(&mut self.book, account, kind, code),
             Call::Move(wanted) => calls::move_collateral(&mut self.book, &lent, &wanted),
             Call::Order(wanted) => calls::order(&mut self.book, &lent, &wanted),
             Call::Roll(account) => calls::roll(&mut self.book, account),
@@ -84,7 +110,9 @@ impl World {
 
 #[derive(Clone, Copy)]
 pub enum Call {
+    /// Without a settlement code.
     Open(i64, i64),
+    OpenOn(i64, i64, i64),
     Move(Move),
     Order(Order),
     Roll(i64),

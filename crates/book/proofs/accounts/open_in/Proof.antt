@@ -1,5 +1,5 @@
 -- `accounts::open_in` meets its contract: the block is lent, opened, and given back. Assumes nothing.
-use mathlib.Core.Path.{_≡_, ap, _∙_}
+use mathlib.Core.Path.{_≡_, ap₂, _∙_}
 use mathlib.Core.List.{List}
 use lib.IntN.{ℤ}
 use lib.ListN.{length}
@@ -15,8 +15,8 @@ open-requires c κs = let s = c .before in let a = s .args in of-lent (a .book .
 
 returns : tie.Need-returns
 returns c = let s = c .before .before .before in let a = s .args in
-    back-at (a .book .now) (a .i) (λ b. opened b (a .kind))
-    (c .before .«open» .ensures ∙ ap (opened (lent (a .book .now) (a .i))) (toZ-ofZ (s .fits .kind)))
+    back-at (a .book .now) (a .i) (λ b. opened b (a .kind) (a .code))
+    (c .before .«open» .ensures ∙ ap₂ (opened (lent (a .book .now) (a .i))) (toZ-ofZ (s .fits .kind)) (toZ-ofZ (s .fits .code)))
 
 pub open-in-spec : {M : Type 1} → statement M
 open-in-spec =

@@ -1,7 +1,5 @@
--- `changes::open` meets its contract: the kind is stored as it is. Assumes nothing.
-use mathlib.Core.Path.{ap}
+-- `changes::open` meets its contract: kind and code are stored as they are. Assumes nothing.
 use mir.Facts.{toZ-ofZ}
-use lib.IntN.{ℤ}
 use lib.ListN.{set}
 use borrow.Author.Needs.{needs}
 use Rattle.book.specs.Changes.{opened}
@@ -10,7 +8,7 @@ use Rattle.book.proofs.changes.open.Tie as tie
 
 returns : tie.Need-returns
 unfolding opened
-returns c = ap (λ (z : ℤ). set (c .args .block .now) 0 z) (toZ-ofZ (c .fits .kind))
+returns c = λ t. set (set (c .args .block .now) 0 (toZ-ofZ (c .fits .kind) t)) 13 (toZ-ofZ (c .fits .code) t)
 
 pub open-spec : {M : Type 1} → statement M
-open-spec = tie.close (tie.spec (λ c. search needs) (λ c. search needs) returns)
+open-spec = tie.close (tie.spec (λ c. search needs) (λ c. search needs) (λ c. search needs) returns)

@@ -21,24 +21,23 @@ use Rattle.engine.proofs.opening.open_code.Tie as tie
 abbrev gate : tie.Start → List Refusal
 gate s = bookGate (s .args .i) (state (s .args .book))
 
-abbrev past : tie.Start → List ℤ → List Refusal
-past s b =
+abbrev past : List ℤ → List Refusal
+past b =
     not (allZero b || between (pos 1) (accountKind b) (pos 3)) gives 6
     ∷ between (pos 1) (accountKind b) (pos 3) gives 5
-    ∷ not (between (pos 1) (s .args .kind) (pos 3)) gives 7
     ∷ []
 
 gate-passed : (c : tie.Else1) → firstCode (gate (c .before .before)) ≡ 0
 gate-passed c = sym (c .before .book-gate .ensures) ∙ c .if1 .left
 
 -- past the gate, of the block that was lent
-past-gate : (c : tie.After-block-of) {n : ℕ} → n ≡ firstCode (past (c .before .before .before) (c .block-of .result .now))
-    → let s = c .before .before .before in n ≡ firstCode (gate s ++ past s (blockAt (state (s .args .book)) (s .args .i)))
+past-gate : (c : tie.After-block-of) {n : ℕ} → n ≡ firstCode (past (c .block-of .result .now))
+    → let s = c .before .before .before in n ≡ firstCode (gate s ++ past (blockAt (state (s .args .book)) (s .args .i)))
 past-gate c e = let s = c .before .before .before in
-    follows (gate s) (past s (blockAt (state (s .args .book)) (s .args .i))) tt (gate-passed (c .before)) (e ∙ ap (λ (b : List ℤ). firstCode (past s b)) (c .block-of .ensures .0))
+    follows (gate s) (past (blockAt (state (s .args .book)) (s .args .i))) tt (gate-passed (c .before)) (e ∙ ap (λ (b : List ℤ). firstCode (past b)) (c .block-of .ensures .0))
 
 returns : tie.Need-returns
-returns c = let s = c .before .before in stops (gate s) (past s (blockAt (state (s .args .book)) (s .args .i))) (c .before .book-gate .ensures) (c .if1 .taken)
+returns c = let s = c .before .before in stops (gate s) (past (blockAt (state (s .args .book)) (s .args .i))) (c .before .book-gate .ensures) (c .if1 .taken)
 
 block-of-requires : tie.Need-block-of-requires
 block-of-requires c κs = book-passed _ (state (c .before .before .args .book)) (gate-passed c)
@@ -50,10 +49,7 @@ returns-3 : tie.Need-returns-3
 returns-3 c = past-gate (c .before .before .before .before) (code (hit (search codes)))
 
 returns-4 : tie.Need-returns-4
-returns-4 c = past-gate (c .before .before .before .before .before .before) (code (miss (search codes) (miss (search codes) (hit (search codes)))))
-
-returns-5 : tie.Need-returns-5
-returns-5 c = past-gate (c .before .before .before .before .before .before) (code (miss (search codes) (miss (search codes) (miss (search codes) none))))
+returns-4 c = past-gate (c .before .before .before .before) (code (miss (search codes) (miss (search codes) none)))
 
 pub open-code-spec : {M : Type 1} → statement M
 open-code-spec =
@@ -66,6 +62,4 @@ open-code-spec =
     returns-2
     (λ c κs. search needs)
     returns-3
-    (λ c κs. search needs)
-    returns-4
-    returns-5)
+    returns-4)

@@ -14,6 +14,8 @@ use Rattle.book.specs.Roll.{rolled, rollOut}
 use Rattle.book.specs.AtAccount.{InBook}
 use Rattle.book.proofs.Good.{good-in-bounds}
 use Rattle.book.proofs.AtAccount.{block-long}
+use Rattle.settlement.proofs.Mates.{on-itself}
+use Rattle.settlement.proofs.Right.{member-good}
 use Rattle.engine.specs.State.{state, blockAt}
 use Rattle.engine.specs.Refused.{bookGate, blockRefusals}
 use Rattle.engine.proofs.Gates.{book-passed}
@@ -64,7 +66,8 @@ roll-fits-requires c κs = let e = c .before in let s = e .before .before .befor
     record {
       long = c .block-of .ensures .1;
       in-bounds = ap inBounds (c .block-of .ensures .0)
-          ∙ good-in-bounds (own s) (block-long (s .args .book .now) (s .args .i) (there (e .before .before))) (not-false _ (none-holds (held s) tt (held-passed e) 0));
+          ∙ good-in-bounds (own s) (block-long (s .args .book .now) (s .args .i) (there (e .before .before)))
+          (member-good _ (s .args .i) (s .args .i) (there (e .before .before) .below) (on-itself _ (s .args .i)) (not-false _ (none-holds (held s) tt (held-passed e) 0)));
     }
 
 past-held : (c : tie.After-roll-fits) {n : ℕ} → n ≡ firstCode (nine (c .before .before .before .before .before .before)) → let s = c .before .before .before .before .before .before in n ≡ firstCode (gate s ++ (held s ++ nine s))
