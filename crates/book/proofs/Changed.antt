@@ -58,7 +58,7 @@ module _ (block : List ℤ) (k : ℕ) (x : ℤ) where
 
 -- an amount added in the account's block is added in the book
 module _ (book : List ℤ) (i k : ℕ) (x : ℤ) (h : k < 288) where
-  pub block-added : blockOf (added book (288 * i + k) x) i ≡ added (blockOf book i) k x
+  block-added : blockOf (added book (288 * i + k) x) i ≡ added (blockOf book i) k x
   block-added = part-added book (288 * i + k) x (288 * i) 288 k h refl
 
   put-beside : (block : List ℤ) → putBlock (added book (288 * i + k) x) i block ≡ putBlock book i block

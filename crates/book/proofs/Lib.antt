@@ -15,4 +15,3 @@ pub mod MoveAndTrade
 pub mod Rolled
 pub mod Allowed
 pub mod AtAccount
-pub mod OneMember

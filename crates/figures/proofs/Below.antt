@@ -1,5 +1,5 @@
--- Of tables that pass the check: the discount lies from 0 to the market risk, and interest risk is from 0 up, of one block and of several; each of the
--- five figures of ONE block is below 2^53 in size.
+-- Of tables that pass the check: the discount lies from 0 to the market risk, and interest risk is from 0 up, of one block to four; each of the five
+-- figures of ONE block is below 2^53 in size.
 -- Assumes nothing.
 use mathlib.Core.List.{List}
 use Prim.Native.Nat.{ℕ, _+_, _<_, _^_}
@@ -87,7 +87,7 @@ module _ (n : ℕ) (parts : ℕ → Part) (small : (a : ℕ) → a < 16 → Smal
         (sum-le 16 _ _ (λ a l. ≤ℤ-trans (one-group (parts a) _ (small a l .long-low) 8) (small a l .long-high)))),
   )
 
-  pub risk-bounds : (rubles : ℤ) → RiskBounds (figuresOf (totalsOf parts 16) groups rubles)
+  risk-bounds : (rubles : ℤ) → RiskBounds (figuresOf (totalsOf parts 16) groups rubles)
   unfolding figuresOf totalsOf discount
   risk-bounds rubles = record {
     discount-low = discount-range .0;
@@ -112,10 +112,6 @@ module _ (block : List ℤ) (tables : Tables) (b : BlockRanges block) (t : Table
   small : (a : ℕ) → a < 16 → SmallPart 1 (parts a)
   unfolding partIn
   small a l = part-small 1 (omega arith) _ (t .row a l) _ (asset-ranges _ _ (t .row a l) _ (b .holding a l))
-
-  pub block-bounds : RiskBounds (blockFigures block tables)
-  unfolding blockFigures
-  block-bounds = risk-bounds 1 parts small (tables .groups) (percent-ranges t) (rublesOf block)
 
   -- each of the five figures is below 2^53 in size
   pub figures-below : Below2^53 (blockFigures block tables)

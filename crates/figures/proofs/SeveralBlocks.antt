@@ -15,9 +15,8 @@ use Rattle.rates.specs.Lent.{Tables}
 use Rattle.rates.specs.InForce.{inForce}
 use Rattle.rates.specs.Ranges.{TableRanges}
 use Rattle.book.specs.Block.{accountKind, blockOf, holdingOf}
-use Rattle.book.specs.Members.{memberAt, overMembers, kindAt, aloneAt, MemberRanges}
+use Rattle.book.specs.Members.{memberAt, overMembers, MemberRanges}
 use Rattle.book.specs.declared.members.Members.{Members}
-use Rattle.book.proofs.OneMember.{over-alone}
 use Rattle.assets.specs.Collateral.{regimeOf}
 use Rattle.assets.specs.Asset.{assetUnder, assetOf}
 use Rattle.assets.specs.Joint.{jointAsset, jointOf}
@@ -28,7 +27,7 @@ use Rattle.assets.proofs.Sizes.{SmallPart, asset-ranges, part-small, small-rang
 use Rattle.assets.proofs.Unheld.{NoPart, unheld-asset, unheld-part}
 use Rattle.assets.proofs.Joint.{joint-alone, record-ranges, record-none}
 use Rattle.figures.specs.Limit.{totalsOf, figuresOf, rublesOf, partIn, blockFigures}
-use Rattle.figures.specs.Joint.{jointPart, jointFigures, memberPart, memberFigures}
+use Rattle.figures.specs.Joint.{jointPart, jointFigures, memberPart}
 use Rattle.figures.specs.Laws.{AloneFigures, FiguresAlike}
 
 -- the same sums, the same figures
@@ -41,7 +40,7 @@ asset-alone : (i kind : ℕ) (row : List ℤ) (holdings : ℕ → List ℤ) → 
 unfolding assetUnder
 asset-alone i kind row holdings = joint-alone i (regimeOf kind row) (λ j. assetOf kind row (holdings j)) refl (tabulated-length _ 8)
 
-pub block-alone : (i : ℕ) (blocks : ℕ → List ℤ) (tables : Tables)
+block-alone : (i : ℕ) (blocks : ℕ → List ℤ) (tables : Tables)
     → jointFigures (λ f. f i) (natAbs (accountKind (blocks i))) blocks tables ≡ blockFigures (blocks i) tables
 unfolding jointFigures jointPart blockFigures partIn
 block-alone i blocks tables =
@@ -52,12 +51,6 @@ block-alone i blocks tables =
 pub alone-figures : AloneFigures
 alone-figures on i l alone blocks tables =
     figures-by (Σ<on 16 on) (λ f. f i) (on-alone 16 i on l alone) (natAbs (accountKind (blocks i))) blocks tables ∙ block-alone i blocks tables
-
--- as code lists it
-pub one-member : (book : List ℤ) (i : ℕ) (tables : Tables)
-    → memberFigures (aloneAt book i) book tables ≡ blockFigures (blockOf book i) tables
-one-member book i tables =
-    figures-by (overMembers (aloneAt book i)) (λ f. f i) (over-alone book i) (kindAt book i) (blockOf book) tables ∙ block-alone i (blockOf book) tables
 
 -- ---- the blocks that count, and no other
 pub figures-alike : FiguresAlike

@@ -12,7 +12,7 @@ use book::in_block;
 // One asset in the blocks of the members, which are read where they stand in the book (clause 4.11).
 
 // The holding of asset a in member k's block.
-fn holding_of<'a>(book: &'a [i64], members: Members, k: usize, a: usize) -> &'a [i64]
+pub(crate) fn holding_of<'a>(book: &'a [i64], members: Members, k: usize, a: usize) -> &'a [i64]
     requires { ⌜ MemberRanges (now book) members × (k < members .count) × (a < 16) ⌝ }
     ensures { λ r. ⌜ now r ≡ holdingOf (blockOf (now (book .entry)) (memberAt members k)) a ⌝ }
 {

@@ -53,9 +53,9 @@ fn with_part(totals: Totals, part: Part) -> Totals
     }
 }
 
-// The sums with asset a of the members. An asset of which none holds anything adds nothing and is passed by before its row is looked up, so that
+// The sums with asset a of several members. An asset of which none holds anything adds nothing and is passed by before its row is looked up, so that
 // members cost by what they hold.
-fn with_asset<'a>(
+fn with_joint_asset<'a>(
     totals: Totals,
     book: &[i64],
     members: Members,
@@ -74,6 +74,48 @@ fn with_asset<'a>(
     let x = joint::joint_asset(book, members, row, a);
     let part = assets::part_of(row, x);
     with_part(totals, part)
+}
+
+// The same of an account alone, whose record is made once and read where it was made.
+fn with_own_asset<'a>(
+    totals: Totals,
+    book: &[i64],
+    members: Members,
+    clearing: &'a [i64],
+    own: &'a [i64],
+    groups: &[i64],
+    a: usize,
+) -> Totals
+    requires { ⌜ TotalRanges 15 totals × MemberRanges (now book) members × TableRanges (lent clearing own groups) × (a < 16) × (members .count ≡ 1) ⌝ }
+    ensures { λ r. ⌜ r ≡ withPart totals (memberPart members (now (book .entry)) (given clearing own groups) a) ⌝ }
+{
+    let holding = joint::holding_of(book, members, 0, a);
+    if whole::all_zero(holding) {
+        return totals;
+    }
+    let row = rates::row_in_force(clearing, own, a);
+    let x = assets::asset_of(members.kind, row, holding);
+    let part = assets::part_of(row, x);
+    with_part(totals, part)
+}
+
+// The same of one or more.
+fn with_asset<'a>(
+    totals: Totals,
+    book: &[i64],
+    members: Members,
+    clearing: &'a [i64],
+    own: &'a [i64],
+    groups: &[i64],
+    a: usize,
+) -> Totals
+    requires { ⌜ TotalRanges 15 totals × MemberRanges (now book) members × TableRanges (lent clearing own groups) × (a < 16) ⌝ }
+    ensures { λ r. ⌜ r ≡ withPart totals (memberPart members (now (book .entry)) (given clearing own groups) a) ⌝ }
+{
+    if members.count == 1 {
+        return with_own_asset(totals, book, members, clearing, own, groups, a);
+    }
+    with_joint_asset(totals, book, members, clearing, own, groups, a)
 }
 
 // The sums over the sixteen assets.

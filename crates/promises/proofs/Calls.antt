@@ -30,8 +30,8 @@ use Rattle.book.proofs.Rolled.{rolled-length}
 use Rattle.book.proofs.Traded.{traded-length, traded-head}
 use Rattle.settlement.proofs.Alike.{alike-right}
 use Rattle.engine.specs.State.{State, blockAt, changedAt}
-use Rattle.engine.specs.Refused.{bookGate, blockRefusals, reportRefusals, openStands, openJudged, rollRefusals, moveChecks, moveStands, moveJudged, orderChecks,
-    orderStands, orderJudged, limitOf, enough, admitted}
+use Rattle.engine.specs.Refused.{bookGate, blockRefusals, reportRefusals, openStands, openJudged, rollRefusals, moveChecks, moveStands, moveJudged}
+use Rattle.engine.specs.Refused.{orderChecks, orderStands, orderJudged, limitOf, enough, admitted}
 use Rattle.engine.specs.Calls.{Call, codeOf, outcomeOf, changing, _before_, opening, judgedOpening, rolling, moving, ordering, judgedMove, judgedTrade}
 use Rattle.engine.proofs.Gates.{book-passed, report-passed}
 use Rattle.engine.proofs.Passed.{open-passed, roll-passed, move-stood, order-stood}

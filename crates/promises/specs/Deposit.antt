@@ -53,8 +53,8 @@ pub record MoreCollateral (s other : State) (i : ℕ) (asset : ℕ) (amount : �
 abbrev pub Report : Type 0
 Report = Tables → ℕ → State → Reported
 
--- ---- the statements; the first two of any report. The first takes its condition on the asset, demand 3's is figures/Laws `Covered`, and the third its condition on
--- the limit after the order, demand 3's is specs/Admission's `ZeroOrMore`, so that specs/Needed can try others
+-- ---- the statements; the first two of any report. The first takes its condition on the asset, which is `Covered` for demand 3, and the third its
+-- condition on the limit after the order, which is specs/Admission's `ZeroOrMore`, so that specs/Needed can try others
 module _ (report : Report) where
   abbrev pub AssetDeposit : (Tables → ℕ → Type 0) → Type 0
   AssetDeposit condition =

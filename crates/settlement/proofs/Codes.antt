@@ -44,13 +44,6 @@ module _ (on : ℕ → Bool) where
   pub count-next : (n : ℕ) → countOn on (n + 1) ≡ countOn on n + cond (on n) 1 0
   count-next n = ap (countOn on) (add-one n) ∙ count-suc n
 
-  pub one-most : (n : ℕ) → cond (on n) 1 0 ≤ 1
-  one-most n = by (on n)
-    where
-      by : (t : Bool) → cond t 1 0 ≤ 1
-      by true = omega arith
-      by false = omega arith
-
   -- an account that is not on the code, and one that is
   module _ (n : ℕ) where
     pub count-passed : on n ≡ false → countOn on (suc n) ≡ countOn on n

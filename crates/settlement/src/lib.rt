@@ -1,12 +1,11 @@
 ghost use mathlib.Core.Path.{_≡_};
-ghost use mathlib.Core.Bool.{true, cond};
 ghost use Prim.Native.Nat.{_<_};
 ghost use Rattle.whole.specs.Bounds.{isZero};
 ghost use Rattle.book.specs.Block.{blockOf, settlementCode};
 ghost use Rattle.book.specs.Rules.{holdsListed};
 ghost use Rattle.book.specs.AtAccount.{InBook};
-ghost use Rattle.settlement.specs.Code.{onCode, countOn, whereOn, everyOn, memberRight, codeRight, codeHoldsListed};
-ghost use Rattle.settlement.specs.Members.{joined, membersOf, CodeRanges};
+ghost use Rattle.settlement.specs.Code.{onCode, whereOn, memberRight, codeRight, codeHoldsListed};
+ghost use Rattle.settlement.specs.Members.{membersOf, CodeRanges};
 use book::Members;
 use book::in_block;
 
@@ -56,55 +55,25 @@ fn member_right(book: &[i64], i: usize, j: usize) -> bool
     whole::number_is(block, in_block::ACCOUNT_KIND, own[in_block::ACCOUNT_KIND])
 }
 
-// Whether block j, where it is on account i's code, is right.
-fn right_where_on(book: &[i64], i: usize, j: usize) -> bool
-    requires { ⌜ InBook (now book) i × (j < 16) ⌝ }
-    ensures { λ r. ⌜ r ≡ whereOn (onCode (now (book .entry)) i) (memberRight (now (book .entry)) i) j ⌝ }
-{
-    if !on_code(book, i, j) {
-        return true;
-    }
-    member_right(book, i, j)
-}
-
-// Whether every block on account i's code is right.
+// Whether every block on account i's code is right, and there are at most four.
 fn members_right(book: &[i64], i: usize) -> bool
     requires { ⌜ InBook (now book) i ⌝ }
-    ensures { λ r. ⌜ r ≡ everyOn (onCode (now (book .entry)) i) (memberRight (now (book .entry)) i) ⌝ }
-{
-    let mut j: usize = 0;
-    while j < in_block::ACCOUNTS {
-        if !right_where_on(book, i, j) {
-            return false;
-        }
-        j += 1;
-    }
-    true
-}
-
-// 1 where block j is on account i's code, else 0.
-fn one_on(book: &[i64], i: usize, j: usize) -> usize
-    requires { ⌜ InBook (now book) i × (j < 16) ⌝ }
-    ensures { λ r. ⌜ r ≡ cond (onCode (now (book .entry)) i j) 1 0 ⌝ }
-{
-    if on_code(book, i, j) {
-        return 1;
-    }
-    0
-}
-
-// How many blocks are on account i's code.
-fn count_on(book: &[i64], i: usize) -> usize
-    requires { ⌜ InBook (now book) i ⌝ }
-    ensures { λ r. ⌜ r ≡ countOn (onCode (now (book .entry)) i) 16 ⌝ }
+    ensures { λ r. ⌜ r ≡ codeRight (now (book .entry)) i ⌝ }
 {
     let mut count: usize = 0;
     let mut j: usize = 0;
     while j < in_block::ACCOUNTS {
-        count += one_on(book, i, j);
+        if !on_code(book, i, j) {
+            j += 1;
+            continue;
+        }
+        if !member_right(book, i, j) {
+            return false;
+        }
+        count += 1;
         j += 1;
     }
-    count
+    count <= MOST_MEMBERS
 }
 
 // Whether the code of account i is right. On no code the account's block decides, and no other is looked at.
@@ -115,10 +84,7 @@ pub fn code_right(book: &[i64], i: usize) -> bool
     if on_no_code(book, i) {
         return book::block_right(book::block_of(book, i));
     }
-    if !members_right(book, i) {
-        return false;
-    }
-    count_on(book, i) <= MOST_MEMBERS
+    members_right(book, i)
 }
 
 // Whether block j, where it is on account i's code, has no holding in an unlisted asset.
@@ -158,25 +124,6 @@ pub fn code_holds_listed(book: &[i64], i: usize, clearing: &[i64]) -> bool
     members_hold_listed(book, i, clearing)
 }
 
-// The list with block j, where it is on account i's code; there is room for it.
-fn with_member(members: Members, book: &[i64], i: usize, j: usize) -> Members
-    requires { ⌜ InBook (now book) i × (j < 16) × (onCode (now book) i j ≡ true → members .count < 4) ⌝ }
-    ensures { λ r. ⌜ r ≡ cond (onCode (now (book .entry)) i j) (joined members j) members ⌝ }
-{
-    if !on_code(book, i, j) {
-        return members;
-    }
-    let kind = members.kind;
-    let count = members.count;
-    let mut at = members.at;
-    at[count] = j;
-    Members {
-        kind,
-        count: count + 1,
-        at,
-    }
-}
-
 // The blocks on the code of account i, by a look at every account.
 fn gathered_members(book: &[i64], i: usize) -> Members
     requires { ⌜ CodeRanges (now book) i ⌝ }
@@ -184,17 +131,19 @@ fn gathered_members(book: &[i64], i: usize) -> Members
 {
     let own = book::alone(book, i);
     let kind = own.kind;
-    let mut members = Members {
-        kind,
-        count: 0,
-        at: [0usize; 4],
-    };
+    let mut count: usize = 0;
+    let mut at = [0usize; 4];
     let mut j: usize = 0;
     while j < in_block::ACCOUNTS {
-        members = with_member(members, book, i, j);
+        if !on_code(book, i, j) {
+            j += 1;
+            continue;
+        }
+        at[count] = j;
+        count += 1;
         j += 1;
     }
-    members
+    Members { kind, count, at }
 }
 
 // The blocks on the code of account i.

