@@ -27,28 +27,19 @@ $1 == "cost" && file == 1 {
     if ($2 == first_ground && $4 > most) dear = dear "; with " assets($3) " (" $4 ")"
 }
 
-$1 == "own" {
-    key = $2 SUBSEP $3
+# The same call with other inputs, each against the first of them.
+$1 == "own" || $1 == "code" {
+    key = $1 SUBSEP $2 SUBSEP $3
     if (file == 1) {
-        own_keys[++owns] = key
-        own_times[key] = "| " $2 " | " $3 " | " micro($4) " | " micro($5)
-        own_costs[key] = spread($9, $10, $11) " | " spread($12, $13, $14)
+        keys[$1, ++of[$1]] = key
+        times[key] = "| " $2 " | " $3 " | " micro($4) " | " micro($5)
+        to_first[key] = spread($9, $10, $11) " | " spread($12, $13, $14)
     }
-    own_ratio[key, file] = spread($6, $7, $8)
-    if ($6 < 1) short[file] = short[file] "; " $2 " with " $3 " own rows (" $6 ")"
+    against[key, file] = spread($6, $7, $8)
+    if ($6 < 1) short[file] = short[file] "; " $2 " with " $3 counted($1, $3) " (" $6 ")"
 }
 
-$1 == "code" {
-    key = $2 SUBSEP $3
-    if (file == 1) {
-        code_keys[++codes] = key
-        code_times[key] = "| " $2 " | " $3 " | " micro($4) " | " micro($5)
-        code_costs[key] = spread($9, $10, $11) " | " spread($12, $13, $14)
-    }
-    code_ratio[key, file] = spread($6, $7, $8)
-    if ($6 < 1) short[file] = short[file] "; " $2 " with " $3 ($3 == 1 ? " block" : " blocks") " on the code (" $6 ")"
-}
-
+function counted(line, count) { return line == "own" ? " own rows" : (count == 1 ? " block" : " blocks") " on the code" }
 function spread(middle, least, greatest) { return middle " (" least " to " greatest ")" }
 function assets(listed) { return listed (listed == 1 ? " asset" : " assets") }
 function rest(text) { return text == "" ? "nothing" : substr(text, 3) }
@@ -104,26 +95,27 @@ function prices(    n) {
     for (n = 1; n <= orders; n++) print costs[n]
 }
 
-function own_rows(    n, key) {
+function rows(line,    n, key) {
+    for (n = 1; n <= of[line]; n++) {
+        key = keys[line, n]
+        print times[key] " | " against[key, 1] " | " against[key, 2] " | " to_first[key] " |"
+    }
+}
+
+function own_rows() {
     print "\n## What own rows cost\n"
     print "With 16 assets listed and held and own rows over none, five and all of them: microseconds a call, engine ÷ second, and each side against the same call without own rows. Every own row is compared with its clearing row, and is in force.\n"
     print "| call | own rows | engine | second | engine ÷ second | without overflow checks | engine, to none | second, to none |"
     print "|---|---|---|---|---|---|---|---|"
-    for (n = 1; n <= owns; n++) {
-        key = own_keys[n]
-        print own_times[key] " | " own_ratio[key, 1] " | " own_ratio[key, 2] " | " own_costs[key] " |"
-    }
+    rows("own")
 }
 
-function shared_codes(    n, key) {
+function shared_codes() {
     print "\n## What settlement codes cost\n"
     print "With 16 assets listed and held in each block, and one, two and four blocks on the account's code: microseconds a call, engine ÷ second, and each side against the same call of a code of one block. A report of a code looks at all its blocks.\n"
     print "| call | blocks | engine | second | engine ÷ second | without overflow checks | engine, to one | second, to one |"
     print "|---|---|---|---|---|---|---|---|"
-    for (n = 1; n <= codes; n++) {
-        key = code_keys[n]
-        print code_times[key] " | " code_ratio[key, 1] " | " code_ratio[key, 2] " | " code_costs[key] " |"
-    }
+    rows("code")
 }
 
 function verdict() {
