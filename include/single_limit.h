@@ -25,7 +25,7 @@ extern "C" {
 #endif
 
 /* The version of this face: the first number changes where a program must, the second where an answer does or a call is added. */
-#define SINGLE_LIMIT_VERSION "3.0.0"
+#define SINGLE_LIMIT_VERSION "3.0.1"
 
 /* Accounts 0 to 15, assets 0 to 15, dates 0 to 7 (date 0 is T0), groups 1 to 8. */
 #define SINGLE_LIMIT_ACCOUNTS 16
@@ -42,6 +42,9 @@ extern "C" {
 #define SINGLE_LIMIT_DATE_LENGTH 5
 #define SINGLE_LIMIT_GROUPS_LENGTH 8
 #define SINGLE_LIMIT_FIGURES_LENGTH 5
+
+/* Bytes of stack: no call takes more, the frame of the function that makes it included. What it takes does not grow with what it is lent. */
+#define SINGLE_LIMIT_MOST_STACK 2048
 
 /* Bounds: of rubles and of units either way; of prices, concentration limits and a date's distances; of shares and rates; of a percent. */
 #define SINGLE_LIMIT_MOST_RUBLES INT64_C(100000000000000)

@@ -1,6 +1,10 @@
 /* Call scripts answered by the calls of include/single_limit.h, so that the engine can be compared with the second program call by call: hand-made
  * books and tables, buffers of any length, and a checksum over all of them after every call. A script is one command a line, a word and decimal
- * numbers with single spaces between them. Each buffer stands between guard words, which are looked at after every call. */
+ * numbers with single spaces between them. Each buffer stands between guard words, which are looked at after every call. Each call has a painted
+ * stack of its own, and one that takes more of it than the header allows stops the program. The most that each call took is added to the file that
+ * STACK_FILE names, where it does. */
+#define _XOPEN_SOURCE 700
+#include "painted.h"
 #include "single_limit.h"
 
 #include <errno.h>
@@ -86,11 +90,6 @@ static void look_at_guards(void) {
         if (!guards_stand(buffers[b]->numbers, buffers[b]->length)) stop("a guard word was written over");
 }
 
-static void answer_code(uint8_t code) {
-    look_at_guards();
-    printf("%u %llu\n", code, (unsigned long long)checksum());
-}
-
 static void set(struct buffer *buffer, const int64_t *n) {
     if (n[0] < 0 || (uint64_t)n[0] >= buffer->length) stop("beyond the lent length");
     buffer->numbers[n[0]] = n[1];
@@ -115,33 +114,49 @@ static void lend_lengths(const int64_t *n) {
 /* A script has signed numbers, and a float's bits are unsigned: the same bits. */
 #define BITS (uint64_t *)feed.numbers, feed.length
 
-/* What a call writes beside the book stands between guard words too, and is not zero before. */
+/* What a call answered, for the printing after it. What it writes beside the book stands between guard words too, and is not zero before. */
+static uint8_t code, gauge[3];
+static uint64_t place[3];
+static int64_t *figures;
+static double shown[3], floats[GUARDS + FIGURES + GUARDS];
+
+static void fill_answers(void) {
+    code = 7;
+    for (int i = 0; i < 3; i++) {
+        gauge[i] = 7;
+        place[i] = 7;
+        shown[i] = -7.0;
+    }
+    for (int i = 0; i < FIGURES; i++) figures[i] = -7;
+    for (int i = 0; i < GUARDS + FIGURES + GUARDS; i++) floats[i] = -7.0;
+}
+
 static void check(const int64_t *n) {
     (void)n;
-    uint64_t words[3] = {7, 7, 7};
-    uint8_t code = single_limit_check_tables(TABLES, &words[1]);
-    look_at_guards();
-    if (words[0] != 7 || words[2] != 7) stop("more than the place was written");
-    printf("%u %llu\n", code, (unsigned long long)words[1]);
+    code = single_limit_check_tables(TABLES, &place[1]);
+}
+static void cover(const int64_t *n) { code = single_limit_covers(LENT(clearing), LENT(own), n[0]); }
+static void open_account(const int64_t *n) { code = single_limit_open(LENT(book), n[0], n[1], n[2]); }
+static void move(const int64_t *n) { code = single_limit_move(LENT(book), TABLES, n[0], n[1], n[2]); }
+static void order(const int64_t *n) { code = single_limit_order(LENT(book), TABLES, n[0], n[1], n[2], n[3], n[4], n[5]); }
+static void roll(const int64_t *n) { code = single_limit_roll(LENT(book), n[0]); }
+static void report(const int64_t *n) { code = single_limit_report(LENT(book), TABLES, n[0], figures, FIGURES); }
+static void app(const int64_t *n) { code = single_limit_app(LENT(book), TABLES, n[0], BITS, &gauge[1], &shown[1]); }
+static void unapp(const int64_t *n) {
+    (void)n;
+    code = single_limit_app_read(BITS, floats + GUARDS, FIGURES);
 }
 
-static void cover(const int64_t *n) {
-    uint8_t passes = single_limit_covers(LENT(clearing), LENT(own), n[0]);
-    look_at_guards();
-    printf("%u\n", passes);
+static void print_code_and_place(void) {
+    if (place[0] != 7 || place[2] != 7) stop("more than the place was written");
+    printf("%u %llu\n", code, (unsigned long long)place[1]);
 }
 
-static void open_account(const int64_t *n) { answer_code(single_limit_open(LENT(book), n[0], n[1], n[2])); }
-static void move(const int64_t *n) { answer_code(single_limit_move(LENT(book), TABLES, n[0], n[1], n[2])); }
-static void order(const int64_t *n) { answer_code(single_limit_order(LENT(book), TABLES, n[0], n[1], n[2], n[3], n[4], n[5])); }
-static void roll(const int64_t *n) { answer_code(single_limit_roll(LENT(book), n[0])); }
+static void print_code(void) { printf("%u\n", code); }
 
-static void report(const int64_t *n) {
-    static int64_t *figures;
-    if (figures == NULL) figures = guarded(FIGURES);
-    for (int i = 0; i < FIGURES; i++) figures[i] = -7;
-    uint8_t code = single_limit_report(LENT(book), TABLES, n[0], figures, FIGURES);
-    look_at_guards();
+static void print_code_and_sum(void) { printf("%u %llu\n", code, (unsigned long long)checksum()); }
+
+static void print_report(void) {
     if (!guards_stand(figures, FIGURES)) stop("more than five figures were written");
     printf("%u", code);
     for (int i = 0; i < FIGURES; i++) printf(" %lld", (long long)figures[i]);
@@ -155,11 +170,7 @@ static long long bits_of(double number) {
 }
 
 /* Where it is refused the feed stays, which the checksum shows, and zeros stand for the record's bits. */
-static void app(const int64_t *n) {
-    uint8_t gauge[3] = {7, 7, 7};
-    double shown[3] = {-7.0, -7.0, -7.0};
-    uint8_t code = single_limit_app(LENT(book), TABLES, n[0], BITS, &gauge[1], &shown[1]);
-    look_at_guards();
+static void print_feed(void) {
     if (gauge[0] != 7 || gauge[2] != 7) stop("more than the gauge was written");
     if (shown[0] != -7.0 || shown[2] != -7.0) stop("more than what the gauge shows was written");
     if (code == 0 && feed.length != FIGURES) stop("another length of the feed was taken");
@@ -168,41 +179,49 @@ static void app(const int64_t *n) {
     printf(" %u %lld %llu\n", gauge[1], bits_of(shown[1]), (unsigned long long)checksum());
 }
 
-static void unapp(const int64_t *n) {
-    (void)n;
-    double words[GUARDS + FIGURES + GUARDS], *figures = words + GUARDS;
-    for (int i = 0; i < GUARDS + FIGURES + GUARDS; i++) words[i] = -7.0;
-    uint8_t code = single_limit_app_read(BITS, figures, FIGURES);
-    look_at_guards();
+static void print_floats(void) {
     for (int i = 0; i < GUARDS; i++)
-        if (words[i] != -7.0 || figures[FIGURES + i] != -7.0) stop("more than five floats were written");
+        if (floats[i] != -7.0 || floats[GUARDS + FIGURES + i] != -7.0) stop("more than five floats were written");
     printf("%u", code);
-    for (int i = 0; i < FIGURES; i++) printf(" %lld", bits_of(figures[i]));
+    for (int i = 0; i < FIGURES; i++) printf(" %lld", bits_of(floats[GUARDS + i]));
     printf("\n");
 }
 
-static const struct command {
+/* A call has an answer to print, and what sets a buffer has none. */
+static struct command {
     const char *word;
     int numbers;
     void (*obey)(const int64_t *numbers);
+    void (*print)(void);
+    size_t most_stack;
 } commands[] = {
-    {"B", 2, set_book},
-    {"C", 2, set_clearing},
-    {"O", 2, set_own},
-    {"G", 2, set_groups},
-    {"F", 2, set_feed},
-    {"L", 7, lend_lengths},
-    {"Z", 0, reset},
-    {"check", 0, check},
-    {"cover", 1, cover},
-    {"open", 3, open_account},
-    {"move", 3, move},
-    {"order", 6, order},
-    {"roll", 1, roll},
-    {"report", 1, report},
-    {"app", 1, app},
-    {"unapp", 0, unapp},
+    {"B", 2, set_book, NULL, 0},
+    {"C", 2, set_clearing, NULL, 0},
+    {"O", 2, set_own, NULL, 0},
+    {"G", 2, set_groups, NULL, 0},
+    {"F", 2, set_feed, NULL, 0},
+    {"L", 7, lend_lengths, NULL, 0},
+    {"Z", 0, reset, NULL, 0},
+    {"check", 0, check, print_code_and_place, 0},
+    {"cover", 1, cover, print_code, 0},
+    {"open", 3, open_account, print_code_and_sum, 0},
+    {"move", 3, move, print_code_and_sum, 0},
+    {"order", 6, order, print_code_and_sum, 0},
+    {"roll", 1, roll, print_code_and_sum, 0},
+    {"report", 1, report, print_report, 0},
+    {"app", 1, app, print_feed, 0},
+    {"unapp", 0, unapp, print_floats, 0},
 };
+enum { COMMANDS = sizeof commands / sizeof *commands };
+
+static void make_call(struct command *command, const int64_t *numbers) {
+    fill_answers();
+    size_t taken = stack_taken(command->obey, numbers);
+    if (taken > SINGLE_LIMIT_MOST_STACK) stop("a call took more stack than the header allows");
+    if (taken > command->most_stack) command->most_stack = taken;
+    look_at_guards();
+    command->print();
+}
 
 /* One space and a number, as often as asked; then the line ends. */
 static void read_numbers(const char *rest, int count, int64_t *numbers) {
@@ -220,23 +239,35 @@ static void read_numbers(const char *rest, int count, int64_t *numbers) {
 static void obey(const char *line) {
     int64_t numbers[MOST_NUMBERS];
     size_t length = strcspn(line, " ");
-    for (size_t i = 0; i < sizeof commands / sizeof *commands; i++) {
-        if (strlen(commands[i].word) != length || strncmp(line, commands[i].word, length) != 0) continue;
-        read_numbers(line + length, commands[i].numbers, numbers);
-        commands[i].obey(numbers);
+    for (struct command *command = commands; command < commands + COMMANDS; command++) {
+        if (strlen(command->word) != length || strncmp(line, command->word, length) != 0) continue;
+        read_numbers(line + length, command->numbers, numbers);
+        if (command->print != NULL) make_call(command, numbers);
+        else command->obey(numbers);
         return;
     }
     stop("no command");
 }
 
+static void say_stack(const char *name) {
+    FILE *file = name == NULL ? NULL : fopen(name, "a");
+    if (file == NULL) return;
+    for (int i = 0; i < COMMANDS; i++)
+        if (commands[i].most_stack > 0) fprintf(file, "%s %zu\n", commands[i].word, commands[i].most_stack);
+    fclose(file);
+}
+
 int main(void) {
     char line[LONGEST_LINE];
     reset(NULL);
+    figures = guarded(FIGURES);
+    paint(0);
     while (fgets(line, sizeof line, stdin) != NULL) {
         line_number++;
         if (strchr(line, '\n') == NULL && !feof(stdin)) stop("too long");
         line[strcspn(line, "\n")] = '\0';
         obey(line);
     }
+    say_stack(getenv("STACK_FILE"));
     return 0;
 }

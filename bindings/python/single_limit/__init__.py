@@ -17,4 +17,4 @@ from .face import load
 from .feed import Feed, Floats, app_read
 from .refusal import Code, Refused
 
-__version__ = "3.0.0"
+__version__ = "3.0.1"

@@ -17,6 +17,9 @@ DATE_LENGTH = 5
 GROUPS_LENGTH = 8
 FIGURES_LENGTH = 5
 
+# Bytes of stack: no call takes more.
+MOST_STACK = 2_048
+
 # Bounds.
 MOST_RUBLES = 100_000_000_000_000
 MOST_UNITS = 1_000_000

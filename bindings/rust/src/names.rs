@@ -19,6 +19,9 @@ pub const DATE_LENGTH: usize = 5;
 pub const GROUPS_LENGTH: usize = 8;
 pub const FIGURES_LENGTH: usize = 5;
 
+// Bytes of stack: no call takes more.
+pub const MOST_STACK: usize = 2_048;
+
 // Bounds.
 pub const MOST_RUBLES: i64 = 100_000_000_000_000;
 pub const MOST_UNITS: i64 = 1_000_000;

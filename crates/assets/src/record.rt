@@ -1,15 +1,17 @@
 ghost use mathlib.Core.Path.{_≡_};
 ghost use Prim.Native.Nat.{_<_};
+ghost use lib.IntN.{pos};
 ghost use Rattle.whole.specs.Bounds.{_within_, _upto_};
 ghost use Rattle.whole.specs.Sums.{Σ<};
 ghost use Rattle.whole.specs.Parts.{tabulated};
 ghost use Rattle.rates.specs.Ranges.{RowRanges};
 ghost use Rattle.book.specs.Ranges.{HoldingRanges};
-ghost use Rattle.assets.specs.Asset.{net, trades, adjustedCollateral, position, leftOut, worthOf, assetOf};
+ghost use Rattle.assets.specs.Asset.{net, adjustedCollateral, position, leftOut, worthOf, assetOf};
 ghost use Rattle.assets.specs.Joint.{withRecord};
 ghost use Rattle.assets.specs.Ranges.{ShareRange, AssetRanges};
 use crate::collateral;
 use crate::collateral::Regime;
+use crate::risk;
 use book::in_block;
 use rates::in_row;
 use rates::units::DATE_COUNT;
@@ -34,26 +36,12 @@ fn net_of(holding: &[i64], d: usize) -> i64
     holding[in_block::CLAIMS + d] - holding[in_block::OBLIGATIONS + d]
 }
 
-// T: their sum over the dates.
-fn trades_of(holding: &[i64]) -> i64
-    requires { ⌜ HoldingRanges (now holding) ⌝ }
-    ensures { λ r. ⌜ (r ≡ trades (now (holding .entry))) × (r within 8000000) ⌝ }
-{
-    let mut sum: i64 = 0;
-    let mut d: usize = 0;
-    while d < DATE_COUNT {
-        sum += net_of(holding, d);
-        d += 1;
-    }
-    sum
-}
-
-// C' of a holding under its regime.
-fn adjusted_collateral(regime: Regime, holding: &[i64]) -> i64
-    requires { ⌜ ShareRange regime × HoldingRanges (now holding) ⌝ }
+// C' of a holding under its regime; `nets` are its claims less obligations by date, and T their sum.
+fn adjusted_collateral(regime: Regime, holding: &[i64], nets: [i64; 8]) -> i64
+    requires { ⌜ ShareRange regime × HoldingRanges (now holding) × (nets ≡ tabulated 8 (position (now holding) (pos 0))) ⌝ }
     ensures { λ r. ⌜ (r ≡ adjustedCollateral regime (now (holding .entry))) × (r within 1000000) ⌝ }
 {
-    let traded = trades_of(holding);
+    let traded = risk::sum_of(nets);
     let held = holding[in_block::COLLATERAL];
     collateral::adjust(regime, held, held + traded)
 }
@@ -121,13 +109,14 @@ fn worth_of(row: &[i64], holding: &[i64], c: i64) -> i64
     sum
 }
 
-// The asset's working record.
+// The asset's working record. Claims less obligations are made once, as positions with nothing added, for T and for all that follows.
 pub fn asset_of(kind: usize, row: &[i64], holding: &[i64]) -> Asset
     requires { ⌜ RowRanges (now row) × HoldingRanges (now holding) ⌝ }
     ensures { λ r. ⌜ (r ≡ assetOf kind (now (row .entry)) (now (holding .entry))) × AssetRanges 1 r ⌝ }
 {
     let regime = collateral::regime_of(kind, row);
-    let c = adjusted_collateral(regime, holding);
+    let nets = positions_of(holding, 0);
+    let c = adjusted_collateral(regime, holding, nets);
     let valued = collateral::value(regime, c);
     let out = left_out(regime, kind, row, holding);
     let worth = worth_of(row, holding, valued - out);

@@ -1,9 +1,10 @@
 ghost use mathlib.Core.Path.{_≡_};
 ghost use Prim.Native.Nat.{_<_};
+ghost use lib.ListN.{length};
 ghost use Rattle.whole.specs.Bounds.{_upto_};
 ghost use Rattle.book.specs.Block.{blockOf, accountKind};
 ghost use Rattle.book.specs.AtAccount.{InBook};
-ghost use Rattle.book.specs.Members.{memberAt, aloneAt, MemberRanges};
+ghost use Rattle.book.specs.Members.{mostMembers, memberAt, aloneAt, MemberRanges};
 use crate::accounts;
 use crate::in_block;
 
@@ -28,12 +29,29 @@ pub fn alone(book: &[i64], i: usize) -> Members
     Members { kind, count: 1, at }
 }
 
+// The place of member k. Every number is read at a constant place: a list that is read at a computed one is first copied to memory, at each look.
+fn place_of(members: Members, k: usize) -> usize
+    requires { ⌜ (length (members .at) ≡ mostMembers) × (k < mostMembers) ⌝ }
+    ensures { λ r. ⌜ r ≡ memberAt members k ⌝ }
+{
+    let at = members.at;
+    if k == 0 {
+        return at[0];
+    }
+    if k == 1 {
+        return at[1];
+    }
+    if k == 2 {
+        return at[2];
+    }
+    at[3]
+}
+
 // The block of member k.
 pub fn member_block<'a>(book: &'a [i64], members: Members, k: usize) -> &'a [i64]
     requires { ⌜ MemberRanges (now book) members × (k < members .count) ⌝ }
     ensures { λ r. ⌜ now r ≡ blockOf (now (book .entry)) (memberAt members k) ⌝ }
 {
-    let at = members.at;
-    let j = at[k];
+    let j = place_of(members, k);
     accounts::block_of(book, j)
 }

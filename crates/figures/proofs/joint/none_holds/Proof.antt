@@ -25,25 +25,36 @@ Inv-loop book members a count k₀ k = (k ≤ members .count) × (every k (nothi
 abbrev μ-loop : tie.MeasureT-loop
 μ-loop book members a count k₀ k = members .count - k
 
+-- the first member, which is looked at before the others
+returns : tie.Need-returns Inv-loop μ-loop
+returns c =
+    let s = c .before .before .before in
+    let held = ap allZero (sym (c .before .before .holding-of .ensures)) ∙ taken (c .before .all-zero .ensures) (c .if1 .taken) in
+    sym (every-out _ _ 0 (s .pre .0 .some) held)
+
 loop-holds : tie.Need-loop-holds Inv-loop μ-loop
-loop-holds c = (omega arith, every-none _)
+loop-holds c =
+    let s = c .before .before .before in
+    let empty = ap allZero (sym (c .before .before .holding-of .ensures)) ∙ left (c .before .all-zero .ensures) (c .if1 .left) in
+    (s .pre .0 .some, every-next _ 0 (every-none _) empty)
 
 loop-again : tie.Need-loop-again Inv-loop μ-loop
 loop-again c =
     let l = c .before .before .before .before .loop in
-    let empty = ap allZero (sym (c .before .before .holding-of .ensures)) ∙ left (c .before .all-zero .ensures) (c .if1 .left) in
+    let empty = ap allZero (sym (c .before .before .holding-of2 .ensures)) ∙ left (c .before .all-zero2 .ensures) (c .if2 .left) in
     (omega arith, every-next _ (l .k) (l .inv .1) empty)
 
-returns : tie.Need-returns Inv-loop μ-loop
-returns c =
+returns-2 : tie.Need-returns-2 Inv-loop μ-loop
+returns-2 c =
     let l = c .before .before .before .before .loop in
-    let held = ap allZero (sym (c .before .before .holding-of .ensures)) ∙ taken (c .before .all-zero .ensures) (c .if1 .taken) in
+    let held = ap allZero (sym (c .before .before .holding-of2 .ensures)) ∙ taken (c .before .all-zero2 .ensures) (c .if2 .taken) in
     sym (every-out _ _ (l .k) (omega arith) held)
 
-returns-2 : tie.Need-returns-2 Inv-loop μ-loop
-returns-2 c = every-done _ (c .before .loop .inv .1) (omega arith)
+returns-3 : tie.Need-returns-3 Inv-loop μ-loop
+returns-3 c = every-done _ (c .before .loop .inv .1) (omega arith)
 
 pub none-holds-spec : {M : Type 1} → statement M
 none-holds-spec =
     tie.close
-    (tie.spec Inv-loop μ-loop loop-holds (λ c κs. search needs) (λ c κs. search needs) returns (λ c. search needs) (λ c. search needs) loop-again returns-2)
+    (tie.spec Inv-loop μ-loop (λ c κs. search needs) (λ c κs. search needs) returns loop-holds (λ c κs. search needs) (λ c κs. search needs) returns-2
+    (λ c. search needs) (λ c. search needs) loop-again returns-3)
