@@ -43,7 +43,7 @@ extern "C" {
 #define SINGLE_LIMIT_GROUPS_LENGTH 8
 #define SINGLE_LIMIT_FIGURES_LENGTH 5
 
-/* Bytes of stack: no call takes more, the frame of the function that makes it included. What it takes does not grow with what it is lent. */
+/* Bytes of stack: no call takes more, as measured with the frame of a C function that only makes it. What it takes does not grow with what it is lent. */
 #define SINGLE_LIMIT_MOST_STACK 2048
 
 /* Bounds: of rubles and of units either way; of prices, concentration limits and a date's distances; of shares and rates; of a percent. */

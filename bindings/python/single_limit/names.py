@@ -17,7 +17,7 @@ DATE_LENGTH = 5
 GROUPS_LENGTH = 8
 FIGURES_LENGTH = 5
 
-# Bytes of stack: no call takes more.
+# Bytes of stack: no call of the engine takes more; what Python takes comes on top.
 MOST_STACK = 2_048
 
 # Bounds.

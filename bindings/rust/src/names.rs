@@ -19,7 +19,7 @@ pub const DATE_LENGTH: usize = 5;
 pub const GROUPS_LENGTH: usize = 8;
 pub const FIGURES_LENGTH: usize = 5;
 
-// Bytes of stack: no call takes more.
+// Bytes of stack: no call of the engine takes more; the frames of this crate come on top.
 pub const MOST_STACK: usize = 2_048;
 
 // Bounds.
