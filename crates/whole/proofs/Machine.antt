@@ -74,7 +74,7 @@ stored : (y : ℤ) (e : Expression) → y ≡ value e → InRange e → back y �
 stored y e q f = rw q (to_z-of_z (fits! e f))
 
 pub runs : (e : Expression) → Runs e → held e ≡ value e
-runs (var x) o = to_z-of_z (record { sfits = o })
+runs (var x) o = to_z-of_z {w = w64} (record { sfits = o })
 runs (lit k) o = refl
 runs (neg a) o = stored (neg_ℤ (held a)) (neg a) (ap neg_ℤ (runs a o.0)) o.1
 runs (size a) o = absurd o

@@ -1,3 +1,5 @@
+#![tactic(auto)]
+
 pub mod codes;
 
 ghost use Rattle.std.specs.Prelude.{◌≡◌, map, ◌+◌, ◌≤◌, ◌<◌, ◌^◌, pos, nat_abs, ◌≤ℤ◌, length};

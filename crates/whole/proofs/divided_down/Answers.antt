@@ -10,22 +10,22 @@ use Rattle.whole.specs.Numbers.{divided_down}
 use Rattle.whole.proofs.Machine.{back, clean₂, fits_back}
 use Rattle.whole.proofs.Rounding.{quot_down, down_fits}
 use Rattle.whole.proofs.Rules.{ints}
-use Rattle.whole.proofs.divided_down.Statement.{statement}
-use Rattle.whole.proofs.divided_down.Tie as tie
+use Rattle.whole.proofs.divided_down.Goals as goal
+use Rattle.whole.proofs.divided_down.Goals.{Start}
 
 -- the quotient of what is read back
-quotient : (c : tie.Start) → quot_z (back c.args.x) (back c.args.by) ≡ divided_down c.args.x (nat_abs c.args.by)
+quotient : (c : Start) → quot_z (back c.args.x) (back c.args.by) ≡ divided_down c.args.x (nat_abs c.args.by)
 quotient c = clean₂ quot_z c.ranges.x c.ranges.by ∙ quot_down c.args.x c.args.by c.requires.0 c.requires.1
 
-fits : (c : tie.Start) → SFits w64 (divided_down c.args.x (nat_abs c.args.by))
+fits : (c : Start) → SFits w64 (divided_down c.args.x (nat_abs c.args.by))
 fits c = down_fits c.args.x (nat_abs c.args.by) c.ranges.x c.requires.0
 
 some : (y : ℤ) → pos 1 ≤ℤ y → 0 < of_z w64 y
 some (pos n) h = omega ints
 some (negsuc n) h = absurd h.le
 
-returns : tie.Need-returns
+pub returns : goal.returns
 returns c = (ap back (quotient c) ∙ to_z-of_z (fits c), fits_back (subst (SFits w64) (sym (quotient c)) (fits c)))
 
-pub divided-down-spec : {M : Type 1} → statement M
-divided-down-spec = tie.close (tie.spec (λ c. (some c.args.by c.requires.1, subst (SFits w64) (sym (quotient c)) (fits c))) returns)
+pub nonzero_div-result : goal.nonzero_div-result
+nonzero_div-result c = (some c.args.by c.requires.1, subst (SFits w64) (sym (quotient c)) (fits c))

@@ -8,29 +8,29 @@ use Rattle.whole.proofs.Expressions.{Expression, var, lit, ◌⊕◌, ◌⊖◌,
 use Rattle.whole.proofs.Machine.{Runs, need!, runs, fits_back}
 use Rattle.whole.proofs.Rounding.{down_up}
 use Rattle.whole.proofs.Rules.{ints}
-use Rattle.whole.proofs.divided_up.Statement.{statement}
-use Rattle.whole.proofs.divided_up.Tie as tie
+use Rattle.whole.proofs.divided_up.Goals as goal
+use Rattle.whole.proofs.divided_up.Goals.{Start}
 
 -- what is divided
-abbrev raised : tie.Start → Expression
+abbrev raised : Start → Expression
 raised c = var c.args.x ⊕ (var c.args.by ⊖ lit 1)
 
-ok : (c : tie.Start) → Runs (raised c)
+ok : (c : Start) → Runs (raised c)
 ok c = omega (ints, abs_is c.args.x, abs_is c.args.by)
 
-returns : tie.Need-returns
+pub returns : goal.returns
 returns c =
     let s = c.before in
-    let r = c.divided-down.ensures in (
+    let r = c.divided_down.ensures in (
       to_z-of_z r.1 ∙ r.0 ∙ ap₂ (λ (z y : ℤ). divided_down z (nat_abs y)) (runs (raised s) (ok s)) (to_z-of_z s.ranges.by) ∙ down_up s.args.x s.args.by s.requires.0 s.requires.1,
       fits_back r.1,
     )
 
-pub divided-up-spec : {M : Type 1} → statement M
-divided-up-spec =
-    tie.close
-    (tie.spec
-    (λ c. need! (var c.args.by ⊖ lit 1) (ok c).1)
-    (λ c. need! (raised c) (ok c))
-    (λ c κs. rw (runs (raised c) (ok c), to_z-of_z c.ranges.by) (le! (lit 0) (raised c) (omega ints), c.requires.1))
-    returns)
+pub overflow_sub-by : goal.overflow_sub-by
+overflow_sub-by c = need! (var c.args.by ⊖ lit 1) (ok c).1
+
+pub overflow_add-x : goal.overflow_add-x
+overflow_add-x c = need! (raised c) (ok c)
+
+pub divided_down-requires : goal.divided_down-requires
+divided_down-requires c = rw (runs (raised c) (ok c), to_z-of_z c.ranges.by) (le! (lit 0) (raised c) (omega ints), c.requires.1)

@@ -1,0 +1,10 @@
+-- `whole::number_between` meets its contract: the number is read back as it stands. Assumes nothing.
+use mathlib.Core.Path.{◌∙◌}
+use borrow.Author.Rules.{rules, sfits_of}
+use Rattle.whole.proofs.Bounds.{between_back}
+use Rattle.whole.proofs.number_between.Goals as goal
+
+pub returns : goal.returns
+returns c =
+    let s = c.before.before in
+    c.lies_between.ensures ∙ between_back s.ranges.low (sfits_of c.lies_between-arg-1.given) s.ranges.high
