@@ -1,3 +1,5 @@
+#![tactic(auto)]
+
 mod answer;
 mod frame;
 mod hex;

@@ -118,9 +118,6 @@ module _ (tables : Tables) where
       row_in_ranges : RowRanges (in_force clearing own a)
       row_in_ranges = of_either clearing own a RowRanges (clearing_ranges sound a h lengths) (own_ranges sound a h lengths)
 
-      row_right : all_true (row_marks (in_force clearing own a)) ≡ true
-      row_right = of_either clearing own a (λ (row : List ℤ). all_true (row_marks row) ≡ true) (clearing_right sound a h) (own_kept sound a h)
-
       pub same_kind : kind (in_force clearing own a) ≡ kind (row_of clearing a)
       same_kind =
           of_either clearing own a (λ (row : List ℤ). kind row ≡ kind (row_of clearing a)) refl
@@ -132,13 +129,6 @@ module _ (tables : Tables) where
       cover_listed e =
           rw (lt-ltb a assets h) (ap (λ (k : ℤ). not (is_zero k)) (sym same_kind) ∙ and_left (not (unlisted (in_force clearing own a))) _ e)
 
-      -- the row in force of one that is not listed is all zero: it has no kind, and keeps the rules
-      zero_row : listed clearing a ≡ false → all_zero (in_force clearing own a) ≡ true
-      unfolding listed
-      zero_row e =
-          let u = ap is_zero same_kind ∙ not-false (unlisted (row_of clearing a)) (rw (lt-ltb a assets h) at e) in
-          unlisted_zero (in_force clearing own a) u row_right
-
     pub ranges : TableRanges tables
     unfolding between
     ranges =
@@ -148,6 +138,4 @@ module _ (tables : Tables) where
           groups_long = long_groups tables lengths;
           row = row_in_ranges;
           percent = λ g h. upto_by (omega arith) (all_numbers percent_right groups (pos 0) refl (percents_right sound) g);
-          present = λ a h. absent_by_kind (row_of own a) (row_of clearing a) (own_row_right sound a h);
-          unlisted_zero = zero_row;
         }

@@ -1,14 +1,12 @@
 -- What the table check gives of a row in force, number by number and by name. An unlisted row, all zero, is in these ranges too, so code that
 -- works on a row needs no case for it; of a listed row the price is 1 or more.
 -- Assumes nothing.
-use Rattle.std.specs.Prelude.{◌≡◌, true, false, List, ℕ, ◌<◌, ℤ, pos, ◌-ℤ◌, ◌≤ℤ◌, length}
+use Rattle.std.specs.Prelude.{◌≡◌, false, List, ℕ, ◌<◌, ℤ, pos, ◌-ℤ◌, ◌≤ℤ◌, length}
 use Rattle.whole.specs.Bounds.{◌within◌, ◌upto◌}
 use Rattle.whole.specs.Parts.{number}
-use Rattle.whole.specs.Marks.{all_zero}
 use Rattle.rates.specs.Units.{row_length, table_length, assets, dates, group_count}
 use Rattle.rates.specs.Lent.{Tables}
-use Rattle.rates.specs.Tables.{listed}
-use Rattle.rates.specs.InForce.{in_force, PresentByKind}
+use Rattle.rates.specs.InForce.{in_force}
 use Rattle.rates.specs.Row.{kind, unlisted, price, acceptance_share, pool_share, covered_sales, special_delivery, base_rate, raised_rate, highest_rate, market_limit, interest_limit, spread_group, mid, low, up, outer_low, outer_up, level}
 
 -- the numbers of date d: mid, what a unit is worth, and how far the others stand from the mid
@@ -57,5 +55,3 @@ pub record TableRanges (tables : Tables) : Type 0 where
   pub groups_long : length tables.groups ≡ group_count
   pub row : (a : ℕ) → a < assets → RowRanges (in_force tables.clearing tables.own a)
   pub percent : (g : ℕ) → g < group_count → number tables.groups g upto 50
-  pub present : (a : ℕ) → a < assets → PresentByKind tables.own a
-  pub unlisted_zero : (a : ℕ) → a < assets → listed tables.clearing a ≡ false → all_zero (in_force tables.clearing tables.own a) ≡ true

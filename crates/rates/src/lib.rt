@@ -1,3 +1,5 @@
+#![tactic(auto)]
+
 mod cover;
 mod dates;
 mod in_force;

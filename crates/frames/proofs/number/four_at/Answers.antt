@@ -1,0 +1,9 @@
+-- `number::four_at` meets its contract: the definition, read off. Assumes nothing.
+use native.Mathlib.Omega.{arith}
+use Rattle.frames.specs.Number.{four}
+use borrow.Author.Rules.{rules}
+use Rattle.frames.proofs.number.four_at.Goals as goal
+
+pub returns : goal.returns
+unfolding four
+returns c = (omega arith, omega arith)

@@ -1,0 +1,26 @@
+-- `rates::stricter::laxer_dates` meets its contract: the dates before d were passed. Assumes nothing.
+use mathlib.Core.Path.{refl}
+use Prim.Native.Nat.{◌-◌}
+use borrow.Author.Rules.{rules}
+use Rattle.whole.proofs.Marks.{Passed, none_passed, piece_passed, found_in, all_passed}
+use Rattle.rates.specs.Units.{dates}
+use Rattle.rates.specs.Row.{dates_at}
+use Rattle.rates.specs.Stricter.{stricter_date}
+use Rattle.rates.proofs.Counts.{stricter_date_count}
+use Rattle.rates.proofs.stricter.laxer_dates.Goals as goal
+
+pub returns-then-laxer-lt-DATE_LENGTH : goal.returns-then-laxer-lt-DATE_LENGTH
+returns-then-laxer-lt-DATE_LENGTH c =
+    let l = c.before.before.before in
+    found_in l.loop-d.invariant c.loop-d-test.true (stricter_date_count _ _ l.loop-d.d) c.laxer_date-laxer.ensures c.if-laxer-lt-DATE_LENGTH.true refl
+
+pub loop-d-preserved : goal.loop-d-preserved
+loop-d-preserved c =
+    let l = c.before.before.before in
+    piece_passed l.loop-d.invariant c.loop-d-test.true (stricter_date_count _ _ l.loop-d.d) c.laxer_date-laxer.ensures c.if-laxer-lt-DATE_LENGTH.false
+
+pub loop-d-init : goal.loop-d-init
+loop-d-init c = none_passed
+
+pub returns : goal.returns
+returns c = all_passed c.loop-d.invariant c.loop-d-test.false refl
