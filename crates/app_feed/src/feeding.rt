@@ -13,7 +13,7 @@ use whole::codes;
 // The feed: a report as the app takes it.
 
 // What goes out: the report's code, its figures as floats and the gauge; zeros and the empty gauge when refused.
-#[derive(Drop)]
+#[derive(Clone, Copy)]
 pub struct Fed {
     pub code: u8,
     pub figures: Floats,

@@ -6,7 +6,7 @@ ghost use Rattle.app_feed.specs.Floats.{float, floats_of, bits_of, is_below, all
 // The five figures as floats, and their bits.
 
 // A report's figures in kopecks, each exactly the whole number.
-#[derive(Drop)]
+#[derive(Clone, Copy)]
 pub struct Floats {
     pub valuation: f64,
     pub market: f64,

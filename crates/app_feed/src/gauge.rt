@@ -7,7 +7,7 @@ use crate::floats;
 // The gauge of the app's first screen.
 
 // Nothing to show; over, by a shortfall in kopecks; or used, a share of the valuation from 0 to 1.
-#[derive(Drop)]
+#[derive(Clone, Copy)]
 pub enum Gauge {
     Empty,
     Over(f64),

@@ -11,7 +11,7 @@ use whole::codes;
 // Five numbers read back as a record of floats.
 
 // What is read: the code and the five floats, zeros when refused.
-#[derive(Drop)]
+#[derive(Clone, Copy)]
 pub struct Received {
     pub code: u8,
     pub figures: Floats,

@@ -10,7 +10,7 @@ use rates::units::WHOLE;
 // Share in force, regime, C' and C'' (document 01; clauses 2.4.1, 2.4.2, 4.4 to 4.8, 4.10).
 
 // How an asset counts as collateral; two of the four carry the share in force.
-#[derive(Drop)]
+#[derive(Clone, Copy)]
 pub enum Regime {
     Special,
     NotRecorded,

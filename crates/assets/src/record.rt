@@ -17,7 +17,7 @@ use rates::units::DATE_COUNT;
 // One asset's record, from the account's kind, the row in force and the asset's 17 numbers (document 01; clauses 4.2, 4.9).
 
 // One asset's working record: its regime, its part of the valuation, and its adjusted positions by date.
-#[derive(Drop)]
+#[derive(Clone, Copy)]
 pub struct Asset {
     pub regime: Regime,
     pub worth: i64,

@@ -13,7 +13,7 @@ use rates::units;
 // amounts turned round takes them back.
 
 // A trade: a buy on side 0, a sell on side 1.
-#[derive(Drop)]
+#[derive(Clone, Copy)]
 pub struct Trade {
     pub asset: usize,
     pub date: usize,

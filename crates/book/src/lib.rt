@@ -1,3 +1,5 @@
+#![tactic(auto)]
+
 mod accounts;
 mod changes;
 pub mod in_block;
@@ -10,7 +12,7 @@ pub use accounts::{block_of, move_in, open_in, roll_in, trade_in};
 pub use changes::{Trade, move_fits, reversed, trade_fits};
 pub use members::{Members, alone, member_block};
 pub use rolling::roll_fits;
-pub use rules::{block_right, block_stands, is_empty};
+pub use rules::{block_right, block_stands, holds_listed, is_empty};
 pub use terms::{
     Terms, amounts_right, asset_right, choice_right, is_rubles, move_amount_right, trade_of,
 };

@@ -9,7 +9,7 @@ use crate::{accounts, in_block};
 // The blocks that are valued together: a short list by value, so that no block is copied and the book is lent once.
 
 // The kind that the members share, and their places in the book: the first `count` numbers of `at`.
-#[derive(Drop)]
+#[derive(Clone, Copy)]
 pub struct Members {
     pub kind: usize,
     pub count: usize,

@@ -140,6 +140,24 @@ pub fn block_right(block: &[i64]) -> bool
     in_bounds(block)
 }
 
+// Whether every asset of which something is held is listed.
+pub fn holds_listed(block: &[i64], clearing: &[i64]) -> bool
+    requires { length block.now ≡ block_length }
+    ensures { result ≡ holds_listed block.now clearing.now }
+{
+    let mut a = 0;
+    while a < ASSET_COUNT {
+        let at = HOLDINGS + HOLDING_LENGTH * a;
+        if !rates::is_listed(clearing, a) {
+            if !whole::all_zero(&block[at..at + HOLDING_LENGTH]) {
+                return false;
+            }
+        }
+        a += 1;
+    }
+    true
+}
+
 // Whether asset a's numbers keep their bounds, and are zero where it is unlisted: zeros keep every bound, so of an unlisted asset that alone is asked.
 fn holding_stands(block: &[i64], clearing: &[i64], a: usize) -> bool
     requires { (length block.now ≡ block_length) × (a < 16) }

@@ -9,7 +9,7 @@ use crate::in_block;
 // tables say.
 
 // What an order names, as it came: side 0 buys, side 1 sells.
-#[derive(Drop)]
+#[derive(Clone, Copy)]
 pub struct Terms {
     pub asset: i64,
     pub date: i64,

@@ -11,7 +11,7 @@ use whole::codes;
 // Check tables, and the report.
 
 // What a report answers: its code, and the five figures, zeros when refused.
-#[derive(Drop)]
+#[derive(Clone, Copy)]
 pub struct Reported {
     pub code: u8,
     pub figures: figures::Figures,

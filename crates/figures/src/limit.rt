@@ -18,7 +18,7 @@ use rates::units::GROUP_COUNT;
 // The discount, and the five figures (document 01; clause 7 and Single Limit).
 
 // The five figures of a report.
-#[derive(Drop)]
+#[derive(Clone, Copy)]
 pub struct Figures {
     pub valuation: i64,
     pub market: i64,

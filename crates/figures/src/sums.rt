@@ -12,7 +12,7 @@ use rates::units::{ASSET_COUNT, TABLE_LENGTH};
 // The sums over the assets of the members.
 
 // Sums over assets: valuation, both risks, and market risk by side and group 0 to 8.
-#[derive(Drop)]
+#[derive(Clone, Copy)]
 pub struct Totals {
     pub valuation: i64,
     pub market: i64,

@@ -5,14 +5,14 @@ use crate::{hex, in_frame, number};
 
 // A line of a session as a frame.
 
-#[derive(Drop)]
+#[derive(Clone, Copy)]
 pub struct MoveNumbers {
     pub account: u8,
     pub asset: u8,
     pub amount: i64,
 }
 
-#[derive(Drop)]
+#[derive(Clone, Copy)]
 pub struct OrderNumbers {
     pub account: u8,
     pub asset: u8,
@@ -22,7 +22,7 @@ pub struct OrderNumbers {
     pub money: i64,
 }
 
-#[derive(Drop)]
+#[derive(Clone, Copy)]
 pub enum Frame {
     Parameter { place: usize, number: i64 },
     Open { account: u8, kind: u8, code: u8 },

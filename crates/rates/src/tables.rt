@@ -12,7 +12,7 @@ use whole::codes;
 // percent that breaks a rule. Where none does, each own row that is present is compared with its clearing row, up to the first that is laxer.
 
 // What the table check answers: its code, with code 2 the place of the first broken number, and with code 13 that of the first laxer one.
-#[derive(Drop)]
+#[derive(Clone, Copy)]
 pub struct Checked {
     pub code: u8,
     pub place: usize,

@@ -9,7 +9,7 @@ use session_lines::sizes::{LONGEST_LINE, PARAMETERS};
 mod waiting;
 
 // How a piece left the session: the bytes held of the line that has begun, whether there may be more to read, and whether a read or a write failed.
-#[derive(Drop)]
+#[derive(Clone, Copy)]
 struct Left {
     count: usize,
     more: bool,

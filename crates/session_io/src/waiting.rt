@@ -5,7 +5,7 @@ ghost use Rattle.io.specs.Counts.{IsPrefixLen};
 use libc::{EAGAIN, EINTR, STDIN_FILENO, STDOUT_FILENO};
 
 // What one read gave: bytes at the start of the buffer, none at the end of the input.
-#[derive(Drop)]
+#[derive(Clone, Copy)]
 pub(crate) struct Got {
     pub count: usize,
     pub failed: bool,

@@ -42,7 +42,7 @@ fn is_blank(line: &[u8], count: usize) -> bool
 }
 
 // What was taken of a piece, the bytes held of the line that has begun, and the bytes written to `out`.
-#[derive(Drop)]
+#[derive(Clone, Copy)]
 pub struct Spot {
     pub used: usize,
     pub count: usize,
