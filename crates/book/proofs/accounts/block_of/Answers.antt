@@ -1,0 +1,13 @@
+-- `accounts::block_of` meets its contract: what is lent is the account's block. Assumes nothing.
+use borrow.Author.Rules.{rules}
+use lib.ListN.{length}
+use mathlib.Core.List.{List}
+use mathlib.Core.Path.{◌≡◌}
+use lib.IntN.{ℤ}
+use Rattle.book.proofs.Blocks.{lent_block}
+use Rattle.book.proofs.AtAccount.{of_lent, block_long}
+use Rattle.book.proofs.accounts.block_of.Goals as goal
+
+pub returns : goal.returns
+returns c = let s = c.before in let b = s.args.book.now in
+    (lent_block _ _, of_lent b s.args.i (λ (l : List ℤ). length l ≡ 288) (block_long b s.args.i s.requires))

@@ -1,0 +1,18 @@
+-- `accounts::open_in` meets its contract: the block is lent, opened, and given back. Assumes nothing.
+use mathlib.Core.Path.{◌≡◌, ap₂, ◌∙◌}
+use mathlib.Core.List.{List}
+use lib.IntN.{ℤ}
+use lib.ListN.{length}
+use mir.Facts.{to_z-of_z}
+use borrow.Author.Rules.{rules}
+use Rattle.book.specs.Changes.{opened}
+use Rattle.book.proofs.AtAccount.{lent, back_at, of_lent, block_long}
+use Rattle.book.proofs.accounts.open_in.Goals as goal
+
+pub open-requires : goal.open-requires
+open-requires c = let s = c.before in let a = s.args in of_lent a.book.now a.i (λ (b : List ℤ). length b ≡ 288) (block_long a.book.now a.i s.requires)
+
+pub returns : goal.returns
+returns c = let s = c.before.before.before in let a = s.args in
+    back_at a.book.now a.i (λ b. opened b a.kind a.code)
+    (c.before.«open».ensures ∙ ap₂ (opened (lent a.book.now a.i)) (to_z-of_z s.ranges.kind) (to_z-of_z s.ranges.code))

@@ -1,0 +1,13 @@
+-- `accounts::roll_in` meets its contract: the block is lent, rolled, and given back. Assumes nothing.
+use borrow.Author.Rules.{rules}
+use Rattle.book.specs.Roll.{rolled}
+use Rattle.book.specs.Ranges.{Bounded}
+use Rattle.book.proofs.AtAccount.{back_at, of_lent}
+use Rattle.book.proofs.accounts.roll_in.Goals as goal
+
+pub roll-requires : goal.roll-requires
+roll-requires c = let s = c.before in of_lent s.args.book.now s.args.i Bounded s.requires.1
+
+pub returns : goal.returns
+returns c = let s = c.before.before.before in let a = s.args in
+    back_at a.book.now a.i rolled c.roll.ensures

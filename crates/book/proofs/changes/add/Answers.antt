@@ -1,0 +1,16 @@
+-- `changes::add` meets its contract: the sum of two numbers within 10^14 fits. Assumes nothing.
+use mathlib.Core.Path.{ap}
+use lib.IntN.{ℤ}
+use lib.ListN.{set}
+use borrow.Author.Rules.{rules}
+use Rattle.whole.proofs.Rules.{ints}
+use Rattle.book.specs.Changes.{added}
+use Rattle.book.proofs.Amounts.{summed}
+use Rattle.book.proofs.changes.add.Goals as goal
+
+pub overflow_add-block : goal.overflow_add-block
+overflow_add-block c = let p = c.requires in omega ints
+
+pub returns : goal.returns
+unfolding added
+returns c = let s = c.before in ap (λ (z : ℤ). set s.args.block.now s.args.k z) (summed s.requires.1 s.requires.2)

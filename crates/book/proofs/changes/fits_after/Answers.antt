@@ -1,0 +1,14 @@
+-- `changes::fits_after` meets its contract: the sum of two numbers within 10^14 fits. Assumes nothing.
+use mathlib.Core.Path.{◌∙◌}
+use mir.Facts.{to_z-of_z}
+use borrow.Author.Rules.{rules}
+use Rattle.book.proofs.Amounts.{sum_fits, summed}
+use Rattle.book.proofs.changes.fits_after.Goals as goal
+
+pub overflow_add-block : goal.overflow_add-block
+overflow_add-block c = let s = c.before in sum_fits s.requires.1 s.requires.2
+
+pub returns : goal.returns
+returns c =
+    let s = c.before.before in
+    c.lies_between.ensures ∙ simp (summed s.requires.1 s.requires.2, to_z-of_z s.ranges.low, to_z-of_z s.ranges.high)

@@ -1,0 +1,23 @@
+-- `changes::money_of` meets its contract: a buy's money is negated, which fits. Assumes nothing.
+use mathlib.Core.Path.{sym, ◌∙◌, subst}
+use mir.Facts.{to_z-of_z}
+use lib.IntN.{ℤ}
+use Rattle.whole.specs.Bounds.{◌within◌}
+use Rattle.book.proofs.Amounts.{large, negative_fits, negated}
+use Rattle.book.proofs.Trades.{money_buy, money_sell, money_within}
+use Rattle.book.proofs.changes.money_of.Goals as goal
+
+pub overflow_sub-result : goal.overflow_sub-result
+overflow_sub-result c = negative_fits c.requires.money_within
+
+pub returns-then-t-eq0 : goal.returns-then-t-eq0
+returns-then-t-eq0 c =
+    let s = c.before.before.before.before in
+    let e = negated s.requires.money_within ∙ sym (money_buy s.args.t c.if-t-eq0.true) in
+    (e, subst (λ (z : ℤ). z within large) (sym e) (money_within s.requires))
+
+pub returns : goal.returns
+returns c =
+    let s = c.before.before.before in
+    let e = to_z-of_z s.requires.money_within.fits ∙ sym (money_sell s.args.t c.if-t-eq0.false) in
+    (e, subst (λ (z : ℤ). z within large) (sym e) (money_within s.requires))

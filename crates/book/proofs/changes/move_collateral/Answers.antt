@@ -1,0 +1,25 @@
+-- `changes::move_collateral` meets its contract: the amount is added where the definition adds it. Assumes nothing.
+use mathlib.Core.Path.{sym, ap₂, ◌∙◌, subst}
+use Prim.Native.Nat.{ℕ}
+use lib.IntN.{ℤ}
+use native.Mathlib.Omega.{arith}
+use mir.Facts.{to_z-of_z}
+use borrow.Author.Rules.{rules}
+use Rattle.whole.specs.Bounds.{◌within◌}
+use Rattle.book.specs.Changes.{added, moved}
+use Rattle.book.proofs.Amounts.{large}
+use Rattle.book.proofs.Moves.{before_move}
+use Rattle.book.proofs.changes.move_collateral.Goals as goal
+
+pub add-requires : goal.add-requires
+add-requires c = let s = c.before.before in let e = c.move_at.ensures in (
+  omega (arith, e.1, s.requires.bounded.long),
+  rw e.0 (before_move _ _ _ s.requires),
+  subst (λ (z : ℤ). z within large) (sym (to_z-of_z s.ranges.amount)) s.requires.amount_within,
+
+)
+
+pub returns : goal.returns
+unfolding moved
+returns c = let s = c.before.before.before.before in
+    c.add.ensures ∙ ap₂ (λ (k : ℕ) (z : ℤ). added s.args.block.now k z) c.move_at.ensures.0 (to_z-of_z s.ranges.amount)

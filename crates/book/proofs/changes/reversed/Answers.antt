@@ -1,0 +1,34 @@
+-- `changes::reversed` meets its contract: amounts within their bounds can be turned round. Assumes nothing.
+use mathlib.Core.Path.{◌≡◌, sym, subst}
+use native.Mathlib.Omega.{arith}
+use lib.IntN.{pos, ◌-ℤ◌}
+use Rattle.whole.proofs.Bounds.{wider}
+use Rattle.whole.proofs.Machine.{back}
+use Rattle.whole.proofs.Rules.{ints}
+use Rattle.book.specs.Changes.{reversed}
+use Rattle.book.specs.Ranges.{TradeRanges}
+use Rattle.book.specs.declared.changes.Trade.{Trade}
+use Rattle.book.proofs.Amounts.{large, negated}
+use Rattle.book.proofs.Trades.{reversed_ranges}
+use Rattle.book.proofs.changes.reversed.Goals as goal
+
+pub overflow_sub-result : goal.overflow_sub-result
+overflow_sub-result c = let r = c.requires in let q = r.quantity_within in let m = r.money_within in omega ints
+
+pub overflow_sub-result-2 : goal.overflow_sub-result-2
+overflow_sub-result-2 c = let m = c.requires.money_within in omega ints
+
+made : (t : Trade) → TradeRanges t
+    → ◌≡◌ {A = Trade} (record { asset = t.asset; date = t.date; side = t.side; quantity = back (pos 0 -ℤ back t.quantity); money = back (pos 0 -ℤ back t.money) }) (reversed t)
+unfolding reversed
+made t r = λ i. record {
+  asset = t.asset;
+  date = t.date;
+  side = t.side;
+  quantity = negated (wider large r.quantity_within (omega arith)) i;
+  money = negated r.money_within i;
+
+}
+
+pub returns : goal.returns
+returns c = let s = c.before.before.before.before in let e = made s.args.t s.requires in (e, subst TradeRanges (sym e) (reversed_ranges s.requires))

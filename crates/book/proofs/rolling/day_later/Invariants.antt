@@ -1,0 +1,19 @@
+-- `rolling::day_later` meets its contract. The loop's invariant: the numbers before d have stepped on, the others are as they were.
+-- Assumes nothing.
+use mathlib.Core.Path.{◌≡◌, refl, sym, ap, ◌∙◌}
+use Prim.Native.Nat.{ℕ, ◌+◌, ◌-◌, ◌≤◌}
+use mathlib.Core.List.{List}
+use native.Mathlib.Omega.{arith}
+use lib.IntN.{ℤ, pos}
+use lib.ListN.{length, set, length-set}
+use mir.Facts.{to_z-of_z}
+use borrow.Author.Rules.{rules, sfits_of}
+use Rattle.whole.specs.Parts.{number}
+use Rattle.book.proofs.rolling.DayLater.{stepped, stepped_ahead, stepped_on, stepped_end}
+use Rattle.book.proofs.rolling.day_later.Given as goal
+
+abbrev pub invariant-loop-d : goal.invariant-loop-d
+invariant-loop-d l = (length l.initial.numbers ≡ 8) × (length l.numbers ≡ 8) × (l.d ≤ 7) × (l.numbers ≡ stepped l.d l.initial.numbers)
+
+abbrev pub decreases-loop-d : goal.decreases-loop-d
+decreases-loop-d l = 7 - l.d

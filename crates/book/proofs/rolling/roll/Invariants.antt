@@ -1,0 +1,20 @@
+-- `rolling::roll` meets its contract. The loop's invariant: the rubles and the holdings before a are rolled. Assumes nothing.
+use mathlib.Core.Path.{◌≡◌, sym, ap, ◌∙◌, subst}
+use mathlib.Core.List.{List}
+use Prim.Native.Nat.{ℕ, ◌-◌, ◌≤◌}
+use native.Mathlib.Omega.{arith}
+use lib.IntN.{ℤ}
+use lib.ListN.{length}
+use borrow.Author.Rules.{rules}
+use Rattle.whole.specs.Parts.{part}
+use Rattle.book.specs.Ranges.{HoldingRanges}
+use Rattle.book.proofs.InBounds.{ruble_ranges, holding_ranges}
+use Rattle.book.proofs.Rolled.{rolled_to, rolled_to_lem, to_begin, to_next, holding_next_up}
+use Rattle.book.proofs.rolling.roll.Given as goal
+
+abbrev pub invariant-loop-a : goal.invariant-loop-a
+invariant-loop-a l =
+    (length l.block ≡ 288) × (l.a ≤ 16) × ((found : List ℤ) → length found ≡ 288 → l.initial.block ≡ rolled_to 0 found → l.block ≡ rolled_to l.a found)
+
+abbrev pub decreases-loop-a : goal.decreases-loop-a
+decreases-loop-a l = 16 - l.a

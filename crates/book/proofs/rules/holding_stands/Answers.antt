@@ -1,0 +1,21 @@
+-- `rules::holding_stands` meets its contract: of a listed asset the bounds are asked, and of an unlisted one zeros, which keep them. Assumes nothing.
+use mathlib.Core.Path.{ap, ◌∙◌}
+use borrow.Author.Rules.{rules}
+use Rattle.whole.specs.Marks.{all_zero}
+use Rattle.whole.proofs.Tests.{passed, failed}
+use Rattle.book.specs.Rules.{holding_right}
+use Rattle.book.proofs.Blocks.{lent_holding}
+use Rattle.book.proofs.Good.{stands_listed, stands_unlisted}
+use Rattle.book.proofs.rules.holding_stands.Goals as goal
+
+pub returns-then-is_listed : goal.returns-then-is_listed
+returns-then-is_listed c =
+    let t = c.before.before in
+    let a = t.args.a in
+    c.holding_right.ensures ∙ ap holding_right (lent_holding _ a) ∙ stands_listed _ _ a (passed t.is_listed.ensures t.if-is_listed.true)
+
+pub returns : goal.returns
+returns c =
+    let e = c.before.before in
+    let a = e.args.a in
+    c.all_zero.ensures ∙ ap all_zero (lent_holding _ a) ∙ stands_unlisted _ _ a (failed e.is_listed.ensures e.if-is_listed.false)
