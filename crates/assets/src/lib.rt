@@ -1,3 +1,5 @@
+#![tactic(auto)]
+
 mod collateral;
 mod parts;
 mod record;

@@ -43,6 +43,9 @@ module _ (on : ℕ → Bool) where
   unfolding count_on
   count_suc n = refl
 
+  pub count_next : (n : ℕ) → count_on on (n + 1) ≡ count_on on n + cond (on n) 1 0
+  count_next n = ap (count_on on) (add-one n) ∙ count_suc n
+
   -- an account that is not on the code, and one that is
   module _ (n : ℕ) where
     pub count_passed : on n ≡ false → count_on on (suc n) ≡ count_on on n

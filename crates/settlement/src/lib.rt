@@ -1,9 +1,11 @@
+#![tactic(auto)]
+
 ghost use Rattle.std.specs.Prelude.{◌≡◌, ◌&&◌, ◌<◌};
 ghost use Rattle.whole.specs.Bounds.{equal, is_zero};
 ghost use Rattle.book.specs.Block.{block_of, account_kind, settlement_code};
 ghost use Rattle.book.specs.Rules.{holds_listed};
 ghost use Rattle.book.specs.AtAccount.{InBook};
-ghost use Rattle.settlement.specs.Code.{on_code, member_right, code_right, code_holds_listed};
+ghost use Rattle.settlement.specs.Code.{on_code, where_on, member_right, code_right, code_holds_listed};
 ghost use Rattle.settlement.specs.Members.{members_of, CodeRanges};
 
 use book::{Members, in_block};
@@ -92,6 +94,43 @@ pub fn code_right(book: &[i64], i: usize) -> bool
         return book::block_right(book::block_of(book, i));
     }
     members_right(book, i)
+}
+
+// Whether block j, where it is on account i's code, has no holding in an unlisted asset.
+fn holds_listed_where_on(book: &[i64], i: usize, clearing: &[i64], j: usize) -> bool
+    requires { InBook book.now i × (j < 16) }
+    ensures { result ≡ where_on (on_code book.now i) (λ k. holds_listed (block_of book.now k) clearing.now) j }
+{
+    if !on_code(book, i, j) {
+        return true;
+    }
+    book::holds_listed(book::block_of(book, j), clearing)
+}
+
+// The same of every block on it.
+fn members_hold_listed(book: &[i64], i: usize, clearing: &[i64]) -> bool
+    requires { InBook book.now i }
+    ensures { result ≡ code_holds_listed book.now i clearing.now }
+{
+    let mut j: usize = 0;
+    while j < in_block::ACCOUNTS {
+        if !holds_listed_where_on(book, i, clearing, j) {
+            return false;
+        }
+        j += 1;
+    }
+    true
+}
+
+// Whether no block on account i's code has a holding in an unlisted asset.
+pub fn code_holds_listed(book: &[i64], i: usize, clearing: &[i64]) -> bool
+    requires { InBook book.now i }
+    ensures { result ≡ code_holds_listed book.now i clearing.now }
+{
+    if on_no_code(book, i) {
+        return book::holds_listed(book::block_of(book, i), clearing);
+    }
+    members_hold_listed(book, i, clearing)
 }
 
 // Whether block j keeps the block rules, holds listed assets only and has account i's kind.

@@ -1,0 +1,51 @@
+-- `collateral::adjust` meets its contract, regime by regime. Assumes nothing.
+use mathlib.Core.Path.{◌≡◌, refl, ap, ◌∙◌, subst}
+use lib.IntN.{pos}
+use mir.Facts.{to_z-of_z}
+use borrow.Author.Rules.{rules}
+use Rattle.whole.specs.Numbers.{min_ℤ}
+use Rattle.whole.specs.Bounds.{◌upto◌}
+use Rattle.whole.proofs.Rules.{ints}
+use Rattle.assets.specs.Collateral.{counted}
+use Rattle.assets.specs.Ranges.{ShareRange}
+use Rattle.assets.proofs.collateral.adjust.Goals as goal
+use Rattle.assets.proofs.collateral.adjust.Goals.{In-Accepted, In-Partial}
+
+pub returns-in-Special : goal.returns-in-Special
+returns-in-Special c = (rw c.in-Special.is refl, omega ints)
+
+pub returns-in-NotRecorded : goal.returns-in-NotRecorded
+returns-in-NotRecorded c =
+    let s = c in
+    let e : c.lesser.result ≡ min_ℤ (pos 0) s.args.held = c.lesser.ensures.0 ∙ ap (min_ℤ (pos 0)) (to_z-of_z s.ranges.held) in
+    let h = s.requires.1 in
+    rw (to_z-of_z c.lesser.ensures.1, c.in-NotRecorded.is) (e, omega ints)
+
+-- what the regime carries
+share-partial : (c : In-Partial) → c.in-Partial.share upto 10000
+share-partial c = subst ShareRange c.in-Partial.is c.requires.0
+
+share-accepted : (c : In-Accepted) → c.in-Accepted.share upto 10000
+share-accepted c = subst ShareRange c.in-Accepted.is c.requires.0
+
+pub counted_of-requires : goal.counted_of-requires
+counted_of-requires c =
+    let s = c in
+    rw (to_z-of_z (share-partial c).fits, to_z-of_z s.ranges.held, to_z-of_z s.ranges.net) (share-partial c, s.requires.1, s.requires.2)
+
+pub counted_of-requires-in-Accepted : goal.counted_of-requires-in-Accepted
+counted_of-requires-in-Accepted c =
+    let s = c in
+    rw (to_z-of_z (share-accepted c).fits, to_z-of_z s.ranges.held, to_z-of_z s.ranges.net) (share-accepted c, s.requires.1, s.requires.2)
+
+pub returns-in-Partial : goal.returns-in-Partial
+returns-in-Partial c =
+    let s = c in let r = c.counted_of.ensures in
+    rw (to_z-of_z r.1.fits, c.in-Partial.is)
+    (r.0 ∙ (λ i. counted (to_z-of_z (share-partial c.before).fits i) (to_z-of_z s.ranges.held i) (to_z-of_z s.ranges.net i)), r.1)
+
+pub returns-in-Accepted : goal.returns-in-Accepted
+returns-in-Accepted c =
+    let s = c in let r = c.counted_of-in-Accepted.ensures in
+    rw (to_z-of_z r.1.fits, c.in-Accepted.is)
+    (r.0 ∙ (λ i. counted (to_z-of_z (share-accepted c.before).fits i) (to_z-of_z s.ranges.held i) (to_z-of_z s.ranges.net i)), r.1)

@@ -1,0 +1,39 @@
+-- `risk::units_charge` meets its contract: the rates and the limit are the row's, read back, and the charge is at most 10,000 for each unit.
+-- Assumes nothing.
+use mathlib.Core.Path.{sym, ◌∙◌, subst}
+use native.Mathlib.Omega.{arith}
+use lib.IntN.{ℤ}
+use mir.Facts.{to_z-of_z}
+use borrow.Author.Rules.{rules}
+use Rattle.whole.specs.Bounds.{◌within◌, ◌upto◌}
+use Rattle.whole.proofs.Bounds.{upto_within}
+use Rattle.whole.proofs.Machine.{back}
+use Rattle.whole.proofs.InRange.{upto_wider, upto_back}
+use Rattle.assets.specs.Risk.{charge, units_charge}
+use Rattle.assets.proofs.risk.Charge.{slope_upto}
+use Rattle.assets.proofs.risk.Sides.{side_slope}
+use Rattle.assets.proofs.risk.units_charge.Goals as goal
+
+rate : {x : ℤ} → x upto 10000 → back x within 10000000
+rate h = upto_within (upto_back (upto_wider 10000000 h (omega arith)))
+
+pub charge_of-requires : goal.charge_of-requires
+charge_of-requires c =
+    let s = c in
+    let r = s.requires.0 in
+    let rates = r.side s.args.side s.requires.1 in
+    (rate rates.base_upto, rate rates.raised_upto, upto_back r.market_upto, upto_back s.requires.2)
+
+pub returns : goal.returns
+unfolding units_charge
+returns c =
+    let s = c in
+    let p = s.requires in
+    let rates = p.0.side s.args.side p.1 in
+    let base = to_z-of_z rates.base_upto.fits in
+    let raised = to_z-of_z rates.raised_upto.fits in
+    let limit = to_z-of_z p.0.market_upto.fits in
+    let units = to_z-of_z s.ranges.n in
+    let r = c.charge_of.ensures in
+    let e = to_z-of_z r.1.fits ∙ r.0 ∙ (λ i. charge (base i) (raised i) (limit i) (units i)) in
+    (e, subst (λ (z : ℤ). z upto 640000000000) (sym e) (slope_upto 10000 (side_slope _ p.0 s.args.side p.1) rates.highest_upto.high p.2 (omega arith)))

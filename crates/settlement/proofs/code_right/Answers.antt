@@ -1,0 +1,13 @@
+-- `settlement::code_right` meets its contract: on no code the account's block decides, on one every block on it and their count. Assumes nothing.
+use mathlib.Core.Path.{sym, ap, ◌∙◌}
+use borrow.Author.Rules.{rules}
+use Rattle.whole.proofs.Tests.{passed}
+use Rattle.book.specs.Rules.{good_block}
+use Rattle.settlement.proofs.Alone.{no_code_unshared, alone_right}
+use Rattle.settlement.proofs.code_right.Goals as goal
+
+pub returns-then-on_no_code : goal.returns-then-on_no_code
+returns-then-on_no_code c =
+    let t = c.before.before in
+    c.block_right.ensures ∙ ap good_block c.block_of.ensures.0
+    ∙ sym (alone_right _ _ t.requires.below (no_code_unshared _ _ (passed t.on_no_code.ensures t.if-on_no_code.true)))

@@ -1,0 +1,27 @@
+-- `settlement::member_stands` meets its contract: the block lent is account j's. Assumes nothing.
+use mathlib.Core.Path.{sym, ap, ◌∙◌}
+use mathlib.Core.Bool.{Bool, ◌&&◌}
+use mathlib.Core.List.{List}
+use lib.IntN.{ℤ}
+use borrow.Author.Rules.{rules}
+use Rattle.whole.proofs.Tests.{left, taken, first_out, and_then}
+use Rattle.book.specs.Rules.{good_block, holds_listed}
+use Rattle.settlement.proofs.Right.{member_and_listed}
+use Rattle.settlement.proofs.member_stands.Goals as goal
+
+-- what is asked of block j, beside its kind
+abbrev stands : List ℤ → List ℤ → Bool
+stands clearing block = good_block block && holds_listed block clearing
+
+pub returns-then-not-block_stands : goal.returns-then-not-block_stands
+returns-then-not-block_stands c =
+    let s = c.before.before in
+    let asked = ap (stands s.args.clearing.now) (sym s.block_of.ensures.0) in
+    sym (first_out _ _ (asked ∙ taken c.block_stands.ensures c.if-not-block_stands.true-raw)) ∙ member_and_listed _ _ _ _
+
+pub returns : goal.returns
+returns c =
+    let e = c.before in
+    let s = e.before.before in
+    let asked = ap (stands s.args.clearing.now) (sym s.block_of.ensures.0) in
+    and_then _ _ (asked ∙ left e.block_stands.ensures e.if-not-block_stands.false-raw) c.same_kind.ensures ∙ member_and_listed _ _ _ _

@@ -1,0 +1,17 @@
+-- `settlement::members_of` meets its contract: an account on no code is its own list. Assumes nothing.
+use mathlib.Core.Path.{sym, ◌∙◌}
+use borrow.Author.Rules.{rules}
+use Rattle.whole.proofs.Tests.{passed}
+use Rattle.settlement.proofs.Right.{own_in_range}
+use Rattle.settlement.proofs.Alone.{no_code_unshared, alone_in_list}
+use Rattle.settlement.proofs.members_of.Goals as goal
+
+pub alone-requires : goal.alone-requires
+alone-requires c = own_in_range _ _ c.requires
+
+pub returns-then-on_no_code : goal.returns-then-on_no_code
+returns-then-on_no_code c =
+    let t = c.before in
+    let s = t.before.before in
+    c.alone.ensures
+    ∙ sym (alone_in_list s.args.book.now s.args.i s.requires.below (no_code_unshared _ _ (passed t.on_no_code.ensures t.if-on_no_code.true)))

@@ -1,0 +1,24 @@
+-- `settlement::on_code` meets its contract: the account itself is on its code, any other by number 13 of the two blocks lent. Assumes nothing.
+use mathlib.Core.Path.{sym, ap, ◌∙◌}
+use borrow.Author.Rules.{rules, sfits_of}
+use mir.Syntax.{w64}
+use mir.Facts.{to_z-of_z}
+use Rattle.whole.specs.Bounds.{between}
+use Rattle.whole.proofs.Tests.{passed, failed}
+use Rattle.book.specs.Block.{settlement_code}
+use Rattle.settlement.proofs.Codes.{on_as_itself, off_no_code, on_by_code}
+use Rattle.settlement.proofs.on_code.Goals as goal
+
+pub returns-then-i-j : goal.returns-then-i-j
+returns-then-i-j c = on_as_itself _ _ _ c.if-i-j.true
+
+pub returns-then-on_no_code : goal.returns-then-on_no_code
+returns-then-on_no_code c = off_no_code _ _ _ c.if-i-j.false (passed c.on_no_code.ensures c.if-on_no_code.true)
+
+pub returns : goal.returns
+returns c =
+    let e = c.before.before.before.before in
+    let code = sym (ap settlement_code c.block_of-own.ensures.0) ∙ sym (to_z-of_z {w = w64} (sfits_of c.number_is-arg-1.given)) in
+    let other = sym (ap settlement_code c.block_of.ensures.0) in
+    on_by_code _ _ _ e.if-i-j.false (failed e.on_no_code.ensures e.if-on_no_code.false)
+    (c.number_is.ensures ∙ sym (λ t. between (code t) (other t) (code t)))

@@ -1,0 +1,15 @@
+-- `settlement::same_kind` meets its contract: the two blocks lent are those of accounts j and i. Assumes nothing.
+use mathlib.Core.Path.{ap, ◌∙◌}
+use borrow.Author.Rules.{rules, sfits_of}
+use mir.Syntax.{w64}
+use mir.Facts.{to_z-of_z}
+use Rattle.whole.specs.Bounds.{between}
+use Rattle.book.specs.Block.{account_kind}
+use Rattle.settlement.proofs.same_kind.Goals as goal
+
+pub returns : goal.returns
+returns c =
+    let own = c.before.before in
+    let kind = to_z-of_z {w = w64} (sfits_of c.number_is-arg-1.given) ∙ ap account_kind own.block_of-own.ensures.0 in
+    let other = ap account_kind own.block_of-block.ensures.0 in
+    c.number_is.ensures ∙ (λ t. between (kind t) (other t) (kind t))
