@@ -2,18 +2,16 @@
 -- each asset's part is as small as its blocks allow.
 -- Assumes nothing.
 use mathlib.Core.Path.{◌≡◌, refl, ap, ◌∙◌}
-use mathlib.Core.Bool.{true, false}
+use mathlib.Core.Bool.{true}
 use mathlib.Core.List.{List}
 use Prim.Native.Nat.{ℕ, ◌<◌}
 use lib.IntN.{ℤ, nat_abs}
 use Rattle.whole.specs.Marks.{all_zero}
 use Rattle.whole.specs.Parts.{number, tabulated}
 use Rattle.whole.specs.Sums.{Σ<on}
-use Rattle.whole.proofs.Sums.{sum_zero}
 use Rattle.whole.proofs.SumsOn.{on_same, on_alone}
 use Rattle.whole.proofs.Tabulated.{tabulated_length}
 use Rattle.rates.specs.Lent.{Tables}
-use Rattle.rates.specs.Tables.{listed}
 use Rattle.rates.specs.InForce.{in_force}
 use Rattle.rates.specs.Ranges.{TableRanges}
 use Rattle.book.specs.Block.{account_kind, block_of, holding_of}
@@ -27,7 +25,6 @@ use Rattle.assets.specs.Ranges.{AssetRanges, PartRanges}
 use Rattle.assets.specs.declared.record.Asset.{Asset}
 use Rattle.assets.proofs.Sizes.{SmallPart, asset_ranges, part_small, small_ranges}
 use Rattle.assets.proofs.Unheld.{NoPart, unheld_asset, unheld_part}
-use Rattle.assets.proofs.Unlisted.{unlisted_worth, unlisted_part}
 use Rattle.assets.proofs.Joint.{joint_alone, record_ranges, record_none}
 use Rattle.figures.specs.Limit.{totals_of, figures_of, rubles_of, part_in, block_figures}
 use Rattle.figures.specs.Joint.{joint_part, joint_figures, member_part}
@@ -97,11 +94,3 @@ module _ (book : List ℤ) (m : Members) (tables : Tables) (p : MemberRanges boo
       unheld_part row (t.row a l) _
       (record_none (member_at m) (regime_of m.kind row) (λ j. asset_of m.kind row (holding_of (block_of book j) a)) m.count
       (λ k q. unheld_asset m.kind row _ (t.row a l) (empty k q)))
-
-  -- an unlisted asset's row is all zero, so that whatever is held of it adds nothing
-  pub member_part_unlisted : listed tables.clearing a ≡ false → NoPart (member_part m book tables a)
-  unfolding joint_part joint_asset
-  member_part_unlisted unlisted =
-      let row = in_force tables.clearing tables.own a in
-      let empty = t.unlisted_zero a l unlisted in
-      unlisted_part row empty _ (sum_zero m.count _ (λ k q. unlisted_worth row empty (regime_of m.kind row) m.kind (holding_of (block_of book (member_at m k)) a)))

@@ -81,7 +81,7 @@ pub(crate) fn member_part<'a>(
     requires { MemberRanges book.now members × TableRanges (lent clearing own groups) × (a < 16) }
     ensures { result ≡ member_part members book.now (given clearing own groups) a }
 {
-    let row = rates::row_of_sound(clearing, own, a);
+    let row = rates::row_in_force(clearing, own, a);
     let x = joint_asset(book, members, row, a);
     assets::part_of(row, x)
 }

@@ -1,3 +1,5 @@
+#![tactic(auto)]
+
 mod joint;
 mod limit;
 mod sums;

@@ -7,12 +7,12 @@ ghost use Rattle.figures.specs.Joint.{member_part};
 
 use crate::joint;
 use book::Members;
-use rates::units::{ASSET_COUNT, TABLE_LENGTH};
+use rates::units::ASSET_COUNT;
 
 // The sums over the assets of the members.
 
 // Sums over assets: valuation, both risks, and market risk by side and group 0 to 8.
-#[derive(Clone, Copy)]
+#[derive(Drop)]
 pub struct Totals {
     pub valuation: i64,
     pub market: i64,
@@ -21,8 +21,8 @@ pub struct Totals {
     pub short: [i64; 9],
 }
 
-// The sums over the sixteen assets, which are added up where they stand: no turn copies them. An asset that is unlisted, or of which no member holds
-// anything, adds nothing and is passed by before its row is looked up, so that members cost by what they hold.
+// The sums over the sixteen assets, which are added up where they stand: no turn copies them. An asset of which no member holds anything adds nothing and is
+// passed by before its row is looked up, so that members cost by what they hold.
 pub(crate) fn totals_of<'a>(
     book: &[i64],
     members: Members,
@@ -38,13 +38,8 @@ pub(crate) fn totals_of<'a>(
     let mut interest: i64 = 0;
     let mut long = [0i64; 9];
     let mut short = [0i64; 9];
-    let rows = &clearing[0..TABLE_LENGTH];
     let mut a: usize = 0;
     while a < ASSET_COUNT {
-        if !rates::is_listed(rows, a) {
-            a += 1;
-            continue;
-        }
         if joint::none_holds(book, members, a) {
             a += 1;
             continue;

@@ -10,22 +10,18 @@ use Rattle.figures.specs.Ranges.{TotalRanges}
 use Rattle.figures.proofs.limit.Discount.{percent_ranges}
 use Rattle.figures.proofs.sums.Steps.{totals_range}
 use Rattle.figures.proofs.SeveralBlocks.{member_part_range}
-use Rattle.figures.proofs.limit.joint_figures.Statement.{statement}
-use Rattle.figures.proofs.limit.joint_figures.Tie as tie
+use Rattle.figures.proofs.limit.joint_figures.Goals as goal
 
-figures-of-requires : tie.Need-figures-of-requires
-figures-of-requires c κs =
-    let p = c.before.before.requires in
+pub figures_of-requires : goal.figures_of-requires
+figures_of-requires c =
+    let p = c.requires in
     let totals = totals_range _ (λ a l. member_part_range _ _ _ p.0 p.1 a l) 16 (omega arith) in
-    (subst (TotalRanges 16) (sym c.before.totals-of.ensures) totals, percent_ranges p.1, let h = c.joint-rubles.ensures.1 in omega ints)
+    (subst (TotalRanges 16) (sym c.totals_of-totals.ensures) totals, percent_ranges p.1, let h = c.joint_rubles-rubles.ensures.1 in omega ints)
 
-returns : tie.Need-returns
+pub returns : goal.returns
 unfolding joint_figures
 returns c =
-    let totals = c.before.before.totals-of.ensures in
-    let r = c.before.joint-rubles.ensures in
+    let totals = c.totals_of-totals.ensures in
+    let r = c.joint_rubles-rubles.ensures in
     let rubles = to_z-of_z r.1.fits ∙ r.0 in
-    c.figures-of.ensures ∙ (λ i. figures_of (totals i) c.before.before.before.args.groups.now (rubles i))
-
-pub joint-figures-spec : {M : Type 1} → statement M
-joint-figures-spec = tie.close (tie.spec (λ c κs. search rules) (λ c κs. search rules) figures-of-requires returns)
+    c.figures_of.ensures ∙ (λ i. figures_of (totals i) c.args.groups.now (rubles i))

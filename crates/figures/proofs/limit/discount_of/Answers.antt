@@ -16,57 +16,51 @@ use Rattle.whole.proofs.Rules.{ints}
 use Rattle.figures.specs.Limit.{discount_of}
 use Rattle.whole.proofs.InRange.{product_upto}
 use Rattle.figures.proofs.limit.Discount.{twice_upto, discount_upto}
-use Rattle.figures.proofs.limit.discount_of.Statement.{statement}
-use Rattle.figures.proofs.limit.discount_of.Tie as tie
+use Rattle.figures.proofs.limit.discount_of.Goals as goal
+use Rattle.figures.proofs.limit.discount_of.Goals.{After-divided_down-arg-1, After-lesser-lesser, Start}
 
 -- the percent of the group
-abbrev percent : tie.Start → ℤ
+abbrev percent : Start → ℤ
 percent c = number c.args.groups.now c.args.g
 
-percent-upto : (c : tie.Start) → percent c upto 50
+percent-upto : (c : Start) → percent c upto 50
 percent-upto c = c.requires.0.each c.args.g c.requires.3
 
-lesser-upto : (c : tie.After-lesser) → c.lesser.result upto 10240000000000000
+lesser-upto : (c : After-lesser-lesser) → c.lesser-lesser.result upto 10240000000000000
 lesser-upto c =
-    let s = c.before.before.before in
+    let s = c in
     let long = s.requires.1.each (1 + s.args.g) (omega arith) in
     let short = s.requires.2.each (1 + s.args.g) (omega arith) in
     omega ints
 
 -- what is divided
-abbrev product : tie.After-divided-down-arg → Expression
-product c = lit 2 ⊛ var (percent c.before.before.before.before) ⊛ var c.before.lesser.result
+abbrev product : After-divided_down-arg-1 → Expression
+product c = lit 2 ⊛ var (percent c.before.before.before.before) ⊛ var c.lesser-lesser.result
 
-product-range : (c : tie.After-divided-down-arg) → (pos 2 *ℤ percent c.before.before.before.before *ℤ c.before.lesser.result) upto 1024000000000000000
+product-range : (c : After-divided_down-arg-1) → (pos 2 *ℤ percent c.before.before.before.before *ℤ c.lesser-lesser.result) upto 1024000000000000000
 product-range c = product_upto (twice_upto (percent-upto c.before.before.before.before)) (lesser-upto c.before) (omega arith)
 
-ok : (c : tie.After-divided-down-arg) → Runs (product c)
+ok : (c : After-divided_down-arg-1) → Runs (product c)
 ok c = omega (ints, is (product c), product-range c, percent-upto c.before.before.before.before, lesser-upto c.before)
 
-mul-divided-down-2 : tie.Need-overflow-mul-divided-down-2
-mul-divided-down-2 c = need! (lit 2 ⊛ var (percent c.before.before.before.before)) (ok c).0
+pub overflow_mul-groups : goal.overflow_mul-groups
+overflow_mul-groups c = need! (lit 2 ⊛ var (percent c.before.before.before.before)) (ok c).0
 
-mul-divided-down-3 : tie.Need-overflow-mul-divided-down-3
-mul-divided-down-3 c = need! (product c) (ok c)
+pub overflow_mul-groups-2 : goal.overflow_mul-groups-2
+overflow_mul-groups-2 c = need! (product c) (ok c)
 
-divided-down-requires : tie.Need-divided-down-requires
-divided-down-requires c κs = rw (runs (product c) (ok c)) ((product-range c).low, omega ints)
+pub divided_down-requires : goal.divided_down-requires
+divided_down-requires c = rw (runs (product c) (ok c)) ((product-range c).low, omega ints)
 
-returns : tie.Need-returns
+pub returns : goal.returns
 unfolding discount_of
 returns c =
     let k = c.before in
     let s = k.before.before.before.before in
     let long = s.requires.1.each (1 + s.args.g) (omega arith) in
     let short = s.requires.2.each (1 + s.args.g) (omega arith) in
-    let r = c.divided-down.ensures in
+    let r = c.divided_down.ensures in
     let e = to_z-of_z r.1 ∙ r.0 ∙ ap (λ (z : ℤ). divided_down z 100) (runs (product k) (ok k)) in (
-      e ∙ ap (λ (z : ℤ). divided_down (pos 2 *ℤ percent s *ℤ z) 100) (k.before.lesser.ensures.0 ∙ clean₂ min_ℤ long.fits short.fits),
+      e ∙ ap (λ (z : ℤ). divided_down (pos 2 *ℤ percent s *ℤ z) 100) (k.lesser-lesser.ensures.0 ∙ clean₂ min_ℤ long.fits short.fits),
       subst (λ (z : ℤ). z upto 10240000000000000) (sym e) (discount_upto (percent-upto s) (lesser-upto k.before) (omega arith)),
     )
-
-pub discount-of-spec : {M : Type 1} → statement M
-discount-of-spec =
-    tie.close
-    (tie.spec (λ c. search rules) (λ c. search rules) (λ c. search rules) (λ c. search rules) (λ c. search rules) (λ c. search rules) (λ c κs. search rules)
-    (λ c. search rules) (λ c. search rules) mul-divided-down-2 mul-divided-down-3 divided-down-requires returns)

@@ -1,0 +1,22 @@
+-- `joint::holding_of` meets its contract: what is lent of the member's block is the asset's holding. Assumes nothing.
+use mathlib.Core.Path.{◌≡◌, ap, ◌∙◌}
+use mathlib.Core.List.{List}
+use native.Mathlib.Omega.{arith}
+use lib.IntN.{ℤ}
+use lib.ListN.{length}
+use borrow.Author.Rules.{rules}
+use Rattle.book.specs.Block.{holding_of}
+use Rattle.book.proofs.Blocks.{lent_holding}
+use Rattle.figures.proofs.joint.holding_of.Goals as goal
+use Rattle.figures.proofs.joint.holding_of.Goals.{After-member_block-block}
+
+block_long : (c : After-member_block-block) → length c.member_block-block.result.now ≡ 288
+block_long c = let s = c in ap length c.member_block-block.ensures ∙ (s.requires.0.block s.args.k s.requires.1).long
+
+pub slice_bounds-result-end : goal.slice_bounds-result-end
+slice_bounds-result-end c = omega (arith, block_long c)
+
+pub returns : goal.returns
+returns c =
+    let a = c.args.a in
+    lent_holding _ a ∙ ap (λ (b : List ℤ). holding_of b a) c.member_block-block.ensures

@@ -1,0 +1,70 @@
+-- `joint::joint_asset` meets its contract. The loop's invariant: x is the record over the members before k. Assumes nothing.
+use mathlib.Core.Path.{◌≡◌, refl, sym, ap, ◌∙◌, subst}
+use mathlib.Core.List.{List}
+use Prim.Native.Nat.{ℕ, ◌-◌, ◌≤◌, ◌<◌}
+use native.Mathlib.Omega.{arith}
+use lib.IntN.{ℤ}
+use borrow.Author.Rules.{rules}
+use Rattle.book.specs.Block.{block_of, holding_of}
+use Rattle.book.specs.Ranges.{HoldingRanges}
+use Rattle.book.specs.Members.{member_at}
+use Rattle.book.specs.declared.members.Members.{Members}
+use Rattle.assets.specs.Collateral.{regime_of}
+use Rattle.assets.specs.Asset.{asset_under, asset_of}
+use Rattle.assets.specs.Joint.{with_record}
+use Rattle.assets.specs.Ranges.{AssetRanges}
+use Rattle.assets.specs.declared.record.Asset.{Asset}
+use Rattle.assets.proofs.Sizes.{asset_ranges}
+use Rattle.assets.proofs.Joint.{record_to, record_first, record_turn, record_ranges, ranges_wider}
+use Rattle.figures.proofs.joint.joint_asset.Invariants.{of, over}
+use Rattle.figures.proofs.joint.joint_asset.Goals as goal
+use Rattle.figures.proofs.joint.joint_asset.Goals.{Start}
+
+-- member k's holding and record are in range
+holding_range : (s : Start) (k : ℕ) → k < s.args.members.count
+    → HoldingRanges (holding_of (block_of s.args.book.now (member_at s.args.members k)) s.args.a)
+holding_range s k l = (s.requires.0.block k l).holding s.args.a s.requires.2
+
+asset-range : (s : Start) (k : ℕ) → k < s.args.members.count
+    → AssetRanges 1 (of s.args.book.now s.args.members.kind s.args.row.now s.args.a (member_at s.args.members k))
+asset-range s k l = asset_ranges _ _ s.requires.1 _ (holding_range s k l)
+
+pub asset_of-x-requires : goal.asset_of-x-requires
+asset_of-x-requires c = let s = c.before in (s.requires.1, subst HoldingRanges (sym c.holding_of.ensures) (holding_range s 0 s.requires.0.some))
+
+pub loop-k-init : goal.loop-k-init
+unfolding asset_under
+loop-k-init c =
+    let s = c.before.before in
+    let made = c.asset_of-x.ensures.0 ∙ ap (asset_of s.args.members.kind s.args.row.now) c.holding_of.ensures in
+    let xs = of s.args.book.now s.args.members.kind s.args.row.now s.args.a in
+    (s.requires.0.some, made ∙ record_first (member_at s.args.members) _ xs refl (asset-range s 0 s.requires.0.some).size)
+
+pub asset_of-y-requires : goal.asset_of-y-requires
+asset_of-y-requires c =
+    let s = c.before.before.before.before.before in
+    (s.requires.1, subst HoldingRanges (sym c.holding_of-in-loop-k.ensures) (holding_range s c.loop-k.k (omega arith)))
+
+pub with_record-x-requires : goal.with_record-x-requires
+with_record-x-requires c =
+    let l = c.loop-k in
+    let s = c.before.before.before.before.before.before in
+    let xs = of s.args.book.now s.args.members.kind s.args.row.now s.args.a in
+    let few = s.requires.0.few in
+    let over-passed = record_ranges (member_at s.args.members) _ xs l.k (omega arith) (λ k q. asset-range s k (omega arith)) in
+    (ranges_wider l.k 3 l.x (subst (AssetRanges l.k) (sym l.invariant.1) over-passed) (omega arith), c.asset_of-y.ensures.1)
+
+pub loop-k-preserved : goal.loop-k-preserved
+loop-k-preserved c =
+    let l = c.loop-k in
+    let s = c in
+    let xs = of s.args.book.now s.args.members.kind s.args.row.now s.args.a in
+    let made = c.asset_of-y.ensures.0 ∙ ap (asset_of s.args.members.kind s.args.row.now) c.holding_of-in-loop-k.ensures in
+    (omega arith, record_turn (member_at s.args.members) _ xs l.k l.x _ l.invariant.1 (c.with_record-x.ensures ∙ ap (with_record l.x) made))
+
+pub returns : goal.returns
+returns c =
+    let l = c.loop-k in
+    let s = c in
+    let e : l.k ≡ s.args.members.count = omega arith in
+    l.invariant.1 ∙ ap (over s.args.book.now s.args.members s.args.row.now s.args.a) e

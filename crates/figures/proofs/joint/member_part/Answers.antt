@@ -1,0 +1,53 @@
+-- `joint::member_part` meets its contract: the lookup gives the row in force, under which the members' records are added. Assumes nothing.
+use mathlib.Core.Path.{◌≡◌, sym, ap, ◌∙◌, subst}
+use mathlib.Core.List.{List}
+use lib.IntN.{ℤ}
+use borrow.Author.Rules.{rules}
+use Rattle.rates.specs.InForce.{in_force, lookup}
+use Rattle.rates.specs.Ranges.{RowRanges}
+use Rattle.rates.proofs.Lookup.{in_force_lem}
+use Rattle.book.specs.Block.{block_of, holding_of}
+use Rattle.book.specs.Members.{over_members}
+use Rattle.assets.specs.Joint.{joint_of}
+use Rattle.assets.specs.Part.{part_of}
+use Rattle.assets.specs.Ranges.{AssetRanges}
+use Rattle.assets.specs.declared.record.Asset.{Asset}
+use Rattle.assets.proofs.Joint.{ranges_wider}
+use Rattle.figures.specs.Joint.{joint_part}
+use Rattle.figures.proofs.SeveralBlocks.{member_asset_range}
+use Rattle.figures.proofs.joint.member_part.Goals as goal
+use Rattle.figures.proofs.joint.member_part.Goals.{After-joint_asset-x, After-row_in_force-row, Start}
+
+-- the row that the lookup hands back
+looked-up : (c : After-row_in_force-row) → let a = c.args in c.row_in_force-row.result.now ≡ in_force a.clearing.now a.own.now a.a
+looked-up c =
+    let s = c in
+    let t = s.requires.1 in
+    let found : c.row_in_force-row.result.now ≡ lookup s.args.clearing.now s.args.own.now s.args.a = search (rules, c.row_in_force-row.ensures) in
+    found ∙ in_force_lem _ _ s.args.a t.clearing_long t.own_long s.requires.2
+
+row_ranges : (c : After-row_in_force-row) → RowRanges c.row_in_force-row.result.now
+row_ranges c = let s = c in subst RowRanges (sym (looked-up c)) (s.requires.1.row s.args.a s.requires.2)
+
+pub joint_asset-x-requires : goal.joint_asset-x-requires
+joint_asset-x-requires c = let s = c in (s.requires.0, row_ranges c, s.requires.2)
+
+-- the record over the members, under a row
+abbrev over : Start → List ℤ → Asset
+over s row = let a = s.args in joint_of (over_members a.members) a.members.kind row (λ j. holding_of (block_of a.book.now j) a.a)
+
+joined : (c : After-joint_asset-x) → let s = c.before.before in let a = s.args in
+    c.joint_asset-x.result ≡ over s (in_force a.clearing.now a.own.now a.a)
+joined c = c.joint_asset-x.ensures ∙ ap (over c.before.before) (looked-up c.before)
+
+pub part_of-requires : goal.part_of-requires
+part_of-requires c =
+    let s = c in
+    let ranges = member_asset_range _ _ _ s.requires.0 s.requires.1 s.args.a s.requires.2 in
+    (row_ranges c.before, ranges_wider _ 4 _ (subst (AssetRanges _) (sym (joined c)) ranges) s.requires.0.few)
+
+pub returns : goal.returns
+unfolding joint_part
+returns c =
+    let found = c.before.before in
+    c.part_of.ensures.0 ∙ (λ i. part_of (looked-up found i) (joined c.before i))

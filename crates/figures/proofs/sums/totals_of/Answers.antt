@@ -1,0 +1,186 @@
+-- `sums::totals_of` meets its contract: before asset a the sums are those over the assets passed. Assumes nothing.
+use mathlib.Core.Path.{◌≡◌, refl, sym, ap, ◌∙◌, subst}
+use mathlib.Core.List.{List}
+use Prim.Native.Nat.{ℕ, ◌+◌, ◌-◌, ◌≤◌, ◌<◌, ◌^◌}
+use native.Mathlib.Omega.{arith}
+use lib.IntN.{ℤ, ◌+ℤ◌}
+use lib.ListN.{set}
+use mir.Syntax.{w64}
+use mir.Val.{SFits, to_z, of_z}
+use mir.Facts.{to_z-of_z}
+use borrow.Author.Rules.{rules}
+use Rattle.whole.specs.Bounds.{◌within◌, ◌upto◌}
+use Rattle.whole.specs.Sums.{Σ<}
+use Rattle.whole.specs.Parts.{number, tabulated}
+use Rattle.whole.proofs.Bounds.{upto_within}
+use Rattle.whole.proofs.Expressions.{var, ◌⊕◌}
+use Rattle.whole.proofs.InRange.{sum_runs}
+use Rattle.whole.proofs.Machine.{back, need!, runs}
+use Rattle.whole.proofs.Summing.{withins}
+use Rattle.whole.proofs.Every.{every_at}
+use Rattle.whole.proofs.Tests.{passed}
+use Rattle.rates.specs.Lent.{Tables, lent}
+use Rattle.assets.specs.Ranges.{PartRanges}
+use Rattle.assets.specs.declared.parts.Part.{Part}
+use Rattle.book.specs.Changes.{added}
+use Rattle.figures.specs.Limit.{by_group, totals_of, with_part}
+use Rattle.figures.specs.Joint.{member_part}
+use Rattle.figures.specs.Ranges.{GroupRanges, TotalRanges}
+use Rattle.figures.specs.declared.sums.Totals.{Totals}
+use Rattle.figures.proofs.sums.Steps.{no_part, totals_turn, totals_range, ranges_wider}
+use Rattle.figures.proofs.SeveralBlocks.{member_part_range, member_part_none}
+use Rattle.figures.proofs.sums.totals_of.Invariants.{sums}
+use Rattle.figures.proofs.sums.totals_of.Goals as goal
+use Rattle.figures.proofs.sums.totals_of.Goals.{After-member_part-part, After-struct_told-in-loop-a-1, After-struct_told-in-loop-a-2-1, After-struct_told-in-loop-a-3-1, After-struct_told-in-loop-a-4-1, At-loop-a, Start}
+
+-- the assets' parts, and their ranges
+abbrev parts : Start → ℕ → Part
+parts s =
+    let a = s.args in
+    member_part a.members a.book.now (lent a.clearing a.own a.groups)
+
+part-range : (s : Start) (a : ℕ) → a < 16 → PartRanges (parts s a)
+part-range s a l = member_part_range _ _ _ s.requires.0 s.requires.1 a l
+
+pub loop-a-init : goal.loop-a-init
+unfolding totals_of by_group Σ< tabulated
+loop-a-init c = (omega arith, refl)
+
+-- where no member holds the asset the sums are as they were, which is what its part adds
+pub loop-a-preserved-then-none_holds : goal.loop-a-preserved-then-none_holds
+loop-a-preserved-then-none_holds c =
+    let l = c.loop-a in
+    let s = c.before.before.before.before in
+    let empty = passed c.none_holds.ensures c.if-none_holds.true in
+    let nothing = member_part_none _ _ _ s.requires.0 s.requires.1 l.a (omega arith) (λ k q. every_at _ _ k q empty) in
+    (omega arith, totals_turn (parts s) l.a _ _ (part-range s l.a (omega arith)) l.invariant.1 (sym (no_part _ _ nothing)))
+
+-- ---- a number added to a sum, and to a number of a side
+abbrev Summed : ℤ → ℤ → Type 0
+Summed total x = SFits w64 (total +ℤ back x) × (back (total +ℤ back x) ≡ total +ℤ x)
+
+summed : (total x : ℤ) {A B : ℕ} → total within A → x within B → A + B < 2 ^ 63 → Summed total x
+summed total x {A} {B} h k l =
+    let fits : SFits w64 (total +ℤ back x) = rw (to_z-of_z k.fits) (withins.added {j = A + B} h k (omega arith) l).fits in
+    (fits, to_z-of_z fits ∙ ap (λ (z : ℤ). total +ℤ z) (to_z-of_z k.fits))
+
+abbrev Raised : List ℤ → ℕ → ℤ → Type 0
+Raised risks g x = SFits w64 (back (number risks g) +ℤ back x) × (back (back (number risks g) +ℤ back x) ≡ number risks g +ℤ x)
+
+raised : (risks : List ℤ) (g : ℕ) (x : ℤ) → GroupRanges 15 risks → g < 9 → x upto 640000000000000 → Raised risks g x
+raised risks g x r l k =
+    let e = var (number risks g) ⊕ var x in
+    let ok = sum_runs (upto_within (r.each g l)) (upto_within k) (omega arith) in
+    (need! e ok, runs e ok)
+
+-- ---- where an asset is held: its part is added
+module _ (m : After-member_part-part) where
+  abbrev start : Start
+  start = m.before.before.before.before.before
+
+  abbrev turn : At-loop-a
+  turn = m.before.before.before.before
+
+  abbrev part : Part
+  part = m.member_part-part.result
+
+  abbrev so_far : Totals
+  so_far = let l = turn.loop-a in sums (to_z w64 l.valuation-bits) (to_z w64 l.market-bits) (to_z w64 l.interest-bits) l.long l.short
+
+  asset_below : turn.loop-a.a < 16
+  asset_below = omega arith
+
+  part-ranges : PartRanges part
+  part-ranges = subst PartRanges (sym m.member_part-part.ensures) (part-range start turn.loop-a.a asset_below)
+
+  sum-ranges : TotalRanges 15 so_far
+  sum-ranges =
+      let l = turn.loop-a in
+      let over = totals_range (parts start) (part-range start) l.a l.invariant.0 in
+      ranges_wider l.a 15 _ (subst (TotalRanges l.a) (sym l.invariant.1) over) (omega arith)
+
+  valuation-summed : Summed (to_z w64 turn.loop-a.valuation-bits) part.worth
+  valuation-summed = summed (to_z w64 turn.loop-a.valuation-bits) part.worth sum-ranges.valuation_within part-ranges.worth_within (omega arith)
+
+  market-summed : Summed (to_z w64 turn.loop-a.market-bits) part.market
+  market-summed = summed (to_z w64 turn.loop-a.market-bits) part.market (upto_within sum-ranges.market_upto) (upto_within part-ranges.market_upto) (omega arith)
+
+  interest-summed : Summed (to_z w64 turn.loop-a.interest-bits) part.interest
+  interest-summed = summed (to_z w64 turn.loop-a.interest-bits) part.interest (upto_within sum-ranges.interest_upto) (upto_within part-ranges.interest_upto) (omega arith)
+
+  long-raised : Raised turn.loop-a.long part.group part.long
+  long-raised = raised turn.loop-a.long part.group part.long sum-ranges.long_range part-ranges.group_below part-ranges.long_upto
+
+  short-raised : Raised turn.loop-a.short part.group part.short
+  short-raised = raised turn.loop-a.short part.group part.short sum-ranges.short_range part-ranges.group_below part-ranges.short_upto
+
+-- where the part was made, seen from where its numbers are added
+abbrev at-market : After-struct_told-in-loop-a-1 → After-member_part-part
+at-market c = c.before.before.before.before.before
+
+abbrev at-interest : After-struct_told-in-loop-a-2-1 → After-member_part-part
+at-interest c = c.before.before.before.before.before.before.before
+
+abbrev at_long : After-struct_told-in-loop-a-3-1 → After-member_part-part
+at_long c = c.before.before.before.before.before.before.before.before.before.before
+
+abbrev at-short : After-struct_told-in-loop-a-4-1 → After-member_part-part
+at-short c = c.before.before.before.before.before.before.before.before.before.before.before.before
+
+pub loop-a-preserved : goal.loop-a-preserved
+unfolding with_part added
+loop-a-preserved c =
+    let m = at-short c in
+    let l = (turn m).loop-a in
+    let valuation = (valuation-summed m).1 in
+    let market = (market-summed m).1 in
+    let interest = (interest-summed m).1 in
+    let long = ap (set l.long (part m).group) (long-raised m).1 in
+    let short = ap (set l.short (part m).group) (short-raised m).1 in
+    let with_this : _ ≡ with_part (so_far m) (part m) = λ i. sums (valuation i) (market i) (interest i) (long i) (short i) in
+    (omega arith, totals_turn (parts (start m)) l.a _ _ (part-range (start m) l.a (omega arith)) l.invariant.1 (with_this ∙ ap (with_part (so_far m)) m.member_part-part.ensures))
+
+pub returns : goal.returns
+returns c =
+    let l = c.loop-a in
+    let e : l.a ≡ 16 = omega arith in
+    l.invariant.1 ∙ ap (totals_of (parts c.before.before)) e
+
+pub overflow_add-valuation : goal.overflow_add-valuation
+overflow_add-valuation c = (valuation-summed c.before.before.before).0
+
+pub overflow_add-market : goal.overflow_add-market
+overflow_add-market c = (market-summed (at-market c)).0
+
+pub overflow_add-interest : goal.overflow_add-interest
+overflow_add-interest c = (interest-summed (at-interest c)).0
+
+pub offset_bounds-long-group : goal.offset_bounds-long-group
+offset_bounds-long-group c = let below = (part-ranges (at-interest c)).group_below in search rules
+
+pub bounds-long-group : goal.bounds-long-group
+bounds-long-group c = (part-ranges (at-interest c)).group_below
+
+pub overflow_add-long : goal.overflow_add-long
+overflow_add-long c = (long-raised (at_long c)).0
+
+pub bounds-long-group-in-loop-a : goal.bounds-long-group-in-loop-a
+bounds-long-group-in-loop-a c = (part-ranges (at_long c)).group_below
+
+pub offset_bounds-short-group : goal.offset_bounds-short-group
+offset_bounds-short-group c = let below = (part-ranges (at_long c)).group_below in search rules
+
+pub bounds-short-group : goal.bounds-short-group
+bounds-short-group c = (part-ranges (at_long c)).group_below
+
+pub overflow_add-short : goal.overflow_add-short
+overflow_add-short c = (short-raised (at-short c)).0
+
+pub bounds-short-group-in-loop-a : goal.bounds-short-group-in-loop-a
+bounds-short-group-in-loop-a c = (part-ranges (at-short c)).group_below
+
+pub overflow_add-a-in-loop-a : goal.overflow_add-a-in-loop-a
+overflow_add-a-in-loop-a c = let below = asset_below (at-short c) in search rules
+
+pub loop-a-smaller : goal.loop-a-smaller
+loop-a-smaller c = let below = asset_below (at-short c) in search rules
