@@ -41,7 +41,7 @@ pub fn feed<'a>(
     account: i64,
     bits: &mut [u64],
 ) -> Fed
-    ensures { sent result bits ≡ sent_of (given clearing own groups) (place_of account) (found book) bits.old }
+    ensures { sent result bits ≡ sent_of (given clearing own groups) (place_of account) (state book.now) bits.old }
 {
     if bits.len() != floats::COUNT {
         return refused(codes::WRONG_LENGTH);

@@ -118,20 +118,20 @@ module _ (tables : Tables) (i : ℕ) (s : State) (asset : ℕ) (amount : ℤ) (p
   abbrev there_moved : InBook s.book i
   there_moved = p.judgeable.there
 
-  in_bounds : in_bounds (moved block asset amount) ≡ true
-  in_bounds = not-false _ (or_left_off (not (in_bounds (moved block asset amount))) (overdrawn block asset amount) p.not_out)
+  moved_in_bounds : in_bounds (moved block asset amount) ≡ true
+  moved_in_bounds = not-false _ (or_left_off (not (in_bounds (moved block asset amount))) (overdrawn block asset amount) p.not_out)
 
   pub judgeable_moved : Judgeable tables i (changed_at i (λ b. moved b asset amount) s)
   judgeable_moved =
       still_judgeable i s (λ b. moved b asset amount) there_moved (moved_length block asset amount) (moved_head block asset amount p.movable.movable) tables
-      p.judgeable (moved_good block asset amount p.movable.movable p.judgeable.is_open (own_good p.judgeable) in_bounds)
+      p.judgeable (moved_good block asset amount p.movable.movable p.judgeable.is_open (own_good p.judgeable) moved_in_bounds)
 
   pub returnable : InBook (changed_at i (λ b. moved b asset amount) s).book i × Movable (block_at (changed_at i (λ b. moved b asset amount) s) i) asset (neg_ℤ amount)
   returnable =
       let long = moved_length block asset amount in (
         at_place s.book i there_moved (λ b. moved b asset amount) long,
         record {
-          bounded = subst Bounded (sym (at_block s.book i there_moved (λ b. moved b asset amount) long)) (record { long = long ∙ block_long s.book i there_moved; in_bounds = in_bounds });
+          bounded = subst Bounded (sym (at_block s.book i there_moved (λ b. moved b asset amount) long)) (record { long = long ∙ block_long s.book i there_moved; in_bounds = moved_in_bounds });
           movable = p.movable.movable;
           amount_within = negative_within p.movable.amount_within;
         },

@@ -3,13 +3,13 @@
 -- Assumes nothing.
 use Rattle.std.specs.Prelude.{List, [], ◌++◌, ℕ, ℤ, nat_abs}
 use Rattle.whole.specs.Refusals.{Refusal, first_code, leaves}
-use Rattle.rates.specs.Lent.{Lent, Tables}
+use Rattle.rates.specs.Lent.{Tables}
 use Rattle.book.specs.Choices.{trade_of}
 use Rattle.book.specs.Changes.{opened, traded, moved}
 use Rattle.book.specs.Roll.{rolled}
 use Rattle.book.specs.declared.changes.Trade.{Trade}
 use Rattle.book.specs.declared.terms.Terms.{Terms}
-use Rattle.engine.specs.State.{State, left, changed_at}
+use Rattle.engine.specs.State.{State, Changed, left, changed_at}
 use Rattle.engine.specs.Refused.{open_stands, open_judged, roll_refusals, move_stands, move_judged, order_stands, order_judged, not_raised}
 
 -- ---- any call
@@ -29,7 +29,7 @@ unfoldable pub outcome_of : Call → State → Outcome
 outcome_of call s = record { code = code_of call s; state = leaves (code_of call s) (call.change s) s }
 
 -- a code and a book, as a contract names what was answered and left
-abbrev pub answer : ℕ → Lent → Outcome
+abbrev pub answer : ℕ → Changed → Outcome
 answer code book = record { code = code; state = left book }
 
 -- a call that nothing turns away and that changes the account's block, and refusals before a call

@@ -1,23 +1,26 @@
 -- What calls change, as one record: a definition takes the state whole, so that one more thing changed is one more field.
 -- Assumes nothing.
 use Rattle.std.specs.Prelude.{List, ℕ, ℤ}
-use Rattle.std.specs.Borrow.{Bor}
-use Rattle.rates.specs.Lent.{Lent}
+use Rattle.std.specs.Borrow.{MutBor}
+use denote.Triple.Both.{Both}
 use Rattle.book.specs.Block.{block_of}
 use Rattle.book.specs.AtAccount.{at_account}
 
 pub record State : Type 0 where
   pub book : List ℤ
 
--- as a `requires` names it, and as an `ensures` does: what a call found, and what it left
-abbrev pub state : Bor (List ℤ) → State
-state book = record { book = book.now }
+abbrev pub state : List ℤ → State
+state book = record { book = book }
 
-abbrev pub found : Lent → State
-found book = state book.entry
+-- as an `ensures` names it where a call may change the book: what the call found, and what it left
+abbrev pub Changed : Type 0
+Changed = Both (MutBor (List ℤ)) (MutBor (List ℤ))
 
-abbrev pub left : Lent → State
-left book = state book.exit
+abbrev pub found : Changed → State
+found book = state book.entry.now
+
+abbrev pub left : Changed → State
+left book = state book.exit.now
 
 -- the state with another book
 abbrev pub with_book : State → List ℤ → State

@@ -4,7 +4,7 @@ ghost use Rattle.std.proofs.Common.{SFits};
 ghost use Rattle.whole.specs.Refusals.{first_code};
 ghost use Rattle.rates.specs.Lent.{lent, given};
 ghost use Rattle.book.specs.AtAccount.{InBook};
-ghost use Rattle.engine.specs.State.{state, found};
+ghost use Rattle.engine.specs.State.{state};
 ghost use Rattle.engine.specs.Refused.{place_of, book_gate, table_gate, block_refusals, holding_refusals, report_refusals, figures_at, limit_of, enough, raised};
 ghost use Rattle.engine.specs.Ranges.{Judgeable};
 
@@ -27,7 +27,7 @@ pub(crate) fn place(account: i64) -> usize
 
 // Codes 1 and 3 of a call that is lent the book alone.
 pub(crate) fn book_gate(book: &[i64], i: usize) -> u8
-    ensures { result ≡ first_code (book_gate i (found book)) }
+    ensures { result ≡ first_code (book_gate i (state book.now)) }
 {
     if book.len() != in_block::BOOK_LENGTH {
         return codes::WRONG_LENGTH;
@@ -40,7 +40,7 @@ pub(crate) fn book_gate(book: &[i64], i: usize) -> u8
 
 // Codes 1, 2, 13 and 3 of a call that is lent tables and groups too.
 fn table_gate(book: &[i64], clearing: &[i64], own: &[i64], groups: &[i64], i: usize) -> u8
-    ensures { result ≡ first_code (table_gate (given clearing own groups) i (found book)) }
+    ensures { result ≡ first_code (table_gate (given clearing own groups) i (state book.now)) }
 {
     if book.len() != in_block::BOOK_LENGTH {
         return codes::WRONG_LENGTH;
@@ -59,7 +59,7 @@ fn table_gate(book: &[i64], clearing: &[i64], own: &[i64], groups: &[i64], i: us
 // Codes 6 and 4, where no tables are lent.
 pub(crate) fn block_code(book: &[i64], i: usize) -> u8
     requires { InBook book.now i }
-    ensures { result ≡ first_code (block_refusals i (found book)) }
+    ensures { result ≡ first_code (block_refusals i (state book.now)) }
 {
     if !settlement::code_right(book, i) {
         return codes::BROKEN_BLOCK;
@@ -73,7 +73,7 @@ pub(crate) fn block_code(book: &[i64], i: usize) -> u8
 // Codes 6 and 4, where tables are lent.
 fn holding_code(book: &[i64], clearing: &[i64], i: usize) -> u8
     requires { InBook book.now i }
-    ensures { result ≡ first_code (holding_refusals clearing.now i (found book)) }
+    ensures { result ≡ first_code (holding_refusals clearing.now i (state book.now)) }
 {
     if !settlement::code_stands(book, i, clearing) {
         return codes::BROKEN_BLOCK;
@@ -92,7 +92,7 @@ pub(crate) fn report_code(
     groups: &[i64],
     i: usize,
 ) -> u8
-    ensures { result ≡ first_code (report_refusals (given clearing own groups) i (found book)) }
+    ensures { result ≡ first_code (report_refusals (given clearing own groups) i (state book.now)) }
 {
     let code = table_gate(book, clearing, own, groups, i);
     if code != codes::DONE {
@@ -109,8 +109,8 @@ pub(crate) fn figures_at<'a>(
     groups: &[i64],
     i: usize,
 ) -> figures::Figures
-    requires { Judgeable (lent clearing own groups) i (state book) }
-    ensures { result ≡ figures_at (given clearing own groups) i (found book) }
+    requires { Judgeable (lent clearing own groups) i (state book.now) }
+    ensures { result ≡ figures_at (given clearing own groups) i (state book.now) }
 {
     let members = settlement::members_of(book, i);
     figures::joint_figures(book, members, clearing, own, groups)
@@ -124,8 +124,8 @@ pub(crate) fn limit_at<'a>(
     groups: &[i64],
     i: usize,
 ) -> i64
-    requires { Judgeable (lent clearing own groups) i (state book) }
-    ensures { (result ≡ limit_of (given clearing own groups) i (found book)) × SFits w64 result }
+    requires { Judgeable (lent clearing own groups) i (state book.now) }
+    ensures { (result ≡ limit_of (given clearing own groups) i (state book.now)) × SFits w64 result }
 {
     let figures = figures_at(book, clearing, own, groups, i);
     figures.limit

@@ -1,3 +1,5 @@
+#![tactic(auto)]
+
 mod gate;
 mod moving;
 mod opening;

@@ -47,7 +47,7 @@ fn move_code(
     asset: i64,
     amount: i64,
 ) -> u8
-    ensures { result ≡ first_code (move_stands (given clearing own groups) i asset amount (found book)) }
+    ensures { result ≡ first_code (move_stands (given clearing own groups) i asset amount (state book.now)) }
 {
     let code = gate::report_code(book, clearing, own, groups, i);
     if code != codes::DONE {
@@ -73,7 +73,7 @@ pub fn move_stands(
     asset: i64,
     amount: i64,
 ) -> u8
-    ensures { result ≡ first_code (move_stands (given clearing own groups) (place_of account) asset amount (found book)) }
+    ensures { result ≡ first_code (move_stands (given clearing own groups) (place_of account) asset amount (state book.now)) }
 {
     move_code(
         book,
@@ -96,7 +96,7 @@ fn judge_move<'a>(
     asset: usize,
     amount: i64,
 ) -> u8
-    requires { MoveStands (lent clearing own groups) i (state book) asset amount }
+    requires { MoveStands (lent clearing own groups) i (state book.old) asset amount }
     ensures { answer result book ≡ outcome_of (judged_move (given clearing own groups) i asset amount) (found book) }
 {
     book::move_in(book, i, asset, amount);

@@ -13,7 +13,7 @@ use whole::codes;
 
 // Every code of an open before 7: whether the block is empty.
 fn open_code(book: &[i64], i: usize) -> u8
-    ensures { result ≡ first_code (open_stands i (found book)) }
+    ensures { result ≡ first_code (open_stands i (state book.now)) }
 {
     let code = gate::book_gate(book, i);
     if code != codes::DONE {
@@ -36,7 +36,7 @@ fn open_code(book: &[i64], i: usize) -> u8
 
 // Open an empty block on a settlement code, or answer 7.
 fn judge_opening(book: &mut [i64], i: usize, kind: i64, code: i64) -> u8
-    requires { Openable i (state book) }
+    requires { Openable i (state book.old) }
     ensures { answer result book ≡ outcome_of (judged_opening i kind code) (found book) }
 {
     if !whole::lies_between(in_block::FIRST_KIND, kind, in_block::LAST_KIND) {

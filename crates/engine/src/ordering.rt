@@ -30,7 +30,7 @@ fn order_checks(clearing: &[i64], o: Terms) -> u8
 
 // Every code of an order before 10, of an account's place.
 fn order_code(book: &[i64], clearing: &[i64], own: &[i64], groups: &[i64], i: usize, o: Terms) -> u8
-    ensures { result ≡ first_code (order_stands (given clearing own groups) i o (found book)) }
+    ensures { result ≡ first_code (order_stands (given clearing own groups) i o (state book.now)) }
 {
     let code = gate::report_code(book, clearing, own, groups, i);
     if code != codes::DONE {
@@ -55,7 +55,7 @@ pub fn order_stands(
     account: i64,
     o: Terms,
 ) -> u8
-    ensures { result ≡ first_code (order_stands (given clearing own groups) (place_of account) o (found book)) }
+    ensures { result ≡ first_code (order_stands (given clearing own groups) (place_of account) o (state book.now)) }
 {
     order_code(book, clearing, own, groups, gate::place(account), o)
 }
@@ -70,7 +70,7 @@ fn book_if_raised<'a>(
     t: Trade,
     after: i64,
 ) -> u8
-    requires { TradeStands (lent clearing own groups) i (state book) t }
+    requires { TradeStands (lent clearing own groups) i (state book.old) t }
     ensures { answer result book ≡ outcome_of (raising_trade (given clearing own groups) i t after) (found book) }
 {
     let before = gate::limit_at(&book[..], clearing, own, groups, i);
@@ -90,7 +90,7 @@ fn judge_order<'a>(
     i: usize,
     t: Trade,
 ) -> u8
-    requires { TradeStands (lent clearing own groups) i (state book) t }
+    requires { TradeStands (lent clearing own groups) i (state book.old) t }
     ensures { answer result book ≡ outcome_of (judged_trade (given clearing own groups) i t) (found book) }
 {
     book::trade_in(book, i, t);

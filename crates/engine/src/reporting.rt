@@ -1,7 +1,7 @@
 ghost use Rattle.std.specs.Prelude.{◌≡◌};
 ghost use Rattle.rates.specs.Lent.{given};
 ghost use Rattle.rates.specs.Tables.{checked};
-ghost use Rattle.engine.specs.State.{found};
+ghost use Rattle.engine.specs.State.{state};
 ghost use Rattle.engine.specs.Refused.{place_of};
 ghost use Rattle.engine.specs.Report.{no_figures, report_of};
 
@@ -46,7 +46,7 @@ pub fn report<'a>(
     groups: &[i64],
     account: i64,
 ) -> Reported
-    ensures { result ≡ report_of (given clearing own groups) (place_of account) (found book) }
+    ensures { result ≡ report_of (given clearing own groups) (place_of account) (state book.now) }
 {
     let i = gate::place(account);
     let code = gate::report_code(book, clearing, own, groups, i);

@@ -1,6 +1,6 @@
 ghost use Rattle.std.specs.Prelude.{◌≡◌};
 ghost use Rattle.whole.specs.Refusals.{first_code};
-ghost use Rattle.engine.specs.State.{found};
+ghost use Rattle.engine.specs.State.{state, found};
 ghost use Rattle.engine.specs.Refused.{place_of, roll_refusals};
 ghost use Rattle.engine.specs.Calls.{answer, outcome_of, rolling};
 
@@ -11,7 +11,7 @@ use whole::codes;
 
 // The code of a roll.
 fn roll_code(book: &[i64], i: usize) -> u8
-    ensures { result ≡ first_code (roll_refusals i (found book)) }
+    ensures { result ≡ first_code (roll_refusals i (state book.now)) }
 {
     let code = gate::book_gate(book, i);
     if code != codes::DONE {

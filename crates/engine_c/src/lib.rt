@@ -112,7 +112,7 @@ pub extern "C" fn single_limit_report<'a>(
     account: i64,
     figures: &mut [i64],
 ) -> u8
-    ensures { filled result figures ≡ filled_report (given clearing own groups) (place_of account) (found book) figures.old }
+    ensures { filled result figures ≡ filled_report (given clearing own groups) (place_of account) (state book.now) figures.old }
 {
     if figures.len() != FIGURES {
         return codes::WRONG_LENGTH;
@@ -145,7 +145,7 @@ pub extern "C" fn single_limit_app<'a>(
     gauge: &mut u8,
     shown: &mut f64,
 ) -> u8
-    ensures { screen result bits gauge shown ≡ screen_of (given clearing own groups) (place_of account) (found book) bits.old }
+    ensures { screen result bits gauge shown ≡ screen_of (given clearing own groups) (place_of account) (state book.now) bits.old }
 {
     let fed = app_feed::feed(book, clearing, own, groups, account, bits);
     let drawn = fed.gauge;

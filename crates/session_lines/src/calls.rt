@@ -83,7 +83,7 @@ pub(crate) fn roll(book: &mut [i64], account: u8) -> u8
 // 06
 pub(crate) fn report(book: &[i64], parameters: &[i64], account: u8) -> engine::Reported
     requires { length parameters.now ≡ parameter_count }
-    ensures { result ≡ report_of (tables_of parameters.now) (account_at account) (found book) }
+    ensures { result ≡ report_of (tables_of parameters.now) (account_at account) (state book.now) }
 {
     engine::report(
         book,
