@@ -19,8 +19,8 @@ unfolding line_frame
 returns-then-unhex c =
     let u = c.unhex in
     let t = c.if-unhex.true in
-    rw (passed u.ensures.0 t) (c.read_frame.ensures ∙ ap frame_of (u.ensures.1 t))
+    rw (passed u.ensures.right t) (c.read_frame.ensures ∙ ap frame_of (u.ensures.written t))
 
 pub returns : goal.returns
 unfolding line_frame
-returns c = rw (failed c.unhex.ensures.0 c.if-unhex.false) refl
+returns c = rw (failed c.unhex.ensures.right c.if-unhex.false) refl
