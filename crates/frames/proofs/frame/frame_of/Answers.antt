@@ -5,7 +5,6 @@ use lib.Seq.{length-take-le}
 use Rattle.whole.proofs.Tests.{passed, failed}
 use Rattle.frames.specs.Frame.{frame_of, line_frame}
 use Rattle.frames.proofs.Shapes.{long_line}
-use borrow.Author.Rules.{rules}
 use Rattle.frames.proofs.frame.frame_of.Goals as goal
 
 pub returns-then-line : goal.returns-then-line

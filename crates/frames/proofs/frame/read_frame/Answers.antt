@@ -2,7 +2,6 @@
 use mathlib.Core.Path.{ap}
 use native.Mathlib.Omega.{arith}
 use mir.Facts.{to_z-of_z}
-use borrow.Author.Rules.{rules}
 use Rattle.whole.proofs.Chains.{chain}
 use Rattle.frames.specs.Frame.{frame_of}
 use Rattle.frames.specs.declared.frame.Frame.TheVariants.{Move, Order}
