@@ -1,7 +1,7 @@
 -- Document 01, "Session lines": the line of an answer, and a buffer with it.
 -- Assumes nothing.
 use Rattle.std.specs.Prelude.{cond, List, [], ◌∷◌, ◌++◌, ℕ, ◌+◌, leb, ℤ, length}
-use Rattle.std.specs.Borrow.{Bor}
+use Rattle.std.specs.Borrow.{MutBor}
 use denote.Triple.Both.{Both}
 use Rattle.whole.specs.Parts.{put}
 use Rattle.frames.specs.Hex.{hex_of}
@@ -29,5 +29,5 @@ written out at line =
     (record { bytes = out; at = at })
 
 -- as an `ensures` says it of the buffer
-abbrev pub written_to : Both (Bor (List ℕ)) (Bor (List ℕ)) → ℕ → Written
+abbrev pub written_to : Both (MutBor (List ℕ)) (MutBor (List ℕ)) → ℕ → Written
 written_to out next = record { bytes = out.exit.now; at = next }

@@ -71,6 +71,7 @@ fn order_numbers(bytes: &[u8]) -> OrderNumbers
 }
 
 // The frame that bytes write.
+#[tactic(auto, using(crate::proofs::Shapes::as_long))]
 fn read_frame(bytes: &[u8]) -> Frame
     ensures { result ≡ frame_of bytes.now }
 {

@@ -1,5 +1,4 @@
 -- `answer::digit` meets its contract: the test is the definition's. Assumes nothing.
-use borrow.Author.Rules.{rules}
 use borrow.Author.Tests.{lt-ltb, le-ltb}
 use Rattle.frames.specs.Hex.{digit_of}
 use Rattle.frames.proofs.answer.digit.Goals as goal

@@ -1,5 +1,4 @@
 -- `answer::put` meets its contract: one byte laid. Assumes nothing.
-use borrow.Author.Rules.{rules}
 use Rattle.whole.proofs.Laid.{laid_one}
 use Rattle.frames.proofs.answer.put.Goals as goal
 

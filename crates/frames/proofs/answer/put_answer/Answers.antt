@@ -2,7 +2,6 @@
 use native.Mathlib.Omega.{arith}
 use Rattle.frames.proofs.answer.Written.{laid_written, no_room}
 use Rattle.frames.proofs.Digits.{answer_length}
-use borrow.Author.Rules.{rules}
 use Rattle.frames.proofs.answer.put_answer.Goals as goal
 
 pub returns-then-out-at : goal.returns-then-out-at

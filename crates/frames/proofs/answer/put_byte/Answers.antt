@@ -5,7 +5,6 @@ use Prim.Native.Nat.{ℕ}
 use native.Mathlib.Omega.{arith}
 use Rattle.frames.specs.Hex.{hex_of}
 use Rattle.whole.proofs.Laid.{laid_same, laid_then}
-use borrow.Author.Rules.{rules}
 use Rattle.frames.proofs.answer.put_byte.Goals as goal
 
 pub returns : goal.returns

@@ -1,15 +1,14 @@
 -- `answer::put_figures` meets its contract: the first k figures are laid, and then one more. Assumes nothing.
 use mathlib.Core.Path.{◌≡◌, refl, ap}
 use mathlib.Core.List.{List}
-use Prim.Native.Nat.{ℕ, ◌*◌, ◌-◌, ◌≤◌}
+use Prim.Native.Nat.{ℕ, ◌*◌}
 use native.Mathlib.Omega.{arith}
 use borrow.Author.Rules.{rules}
 use lib.IntN.{ℤ}
 use mir.Syntax.{w64}
 use mir.Facts.{to_z-of_z}
-use lib.ListN.{length, take}
+use lib.ListN.{length}
 use lib.Seq.{take_all}
-use Rattle.whole.specs.Laid.{Laid}
 use Rattle.frames.specs.Hex.{hex_of}
 use Rattle.frames.specs.Number.{n8}
 use Rattle.frames.specs.Answer.{figure_bytes}
@@ -27,7 +26,7 @@ loop-k-preserved c =
     let h = c.loop-k-test.true in (
       omega arith,
       omega arith,
-      laid_same (figures_next _ j.k h) (laid_size (omega arith) (laid_then (omega arith) j.invariant.2 (laid_same (ap (λ (z : ℤ). hex_of (n8 z)) (to_z-of_z {w = w64} (record { sfits = c.put_n8-arg-in-loop-k-1.given }))) c.put_n8-next.ensures))),
+      laid_same (figures_next _ j.k h) (laid_size (omega arith) (laid_then (omega arith) j.invariant.2 (laid_same (ap (λ (z : ℤ). hex_of (n8 z)) (to_z-of_z {w = w64} (search rules))) c.put_n8-next.ensures))),
     )
 
 pub returns : goal.returns

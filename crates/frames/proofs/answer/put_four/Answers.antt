@@ -3,7 +3,6 @@ use native.Mathlib.Omega.{arith}
 use Rattle.frames.specs.Hex.{hex_of}
 use Rattle.frames.specs.Number.{two_bytes, four_bytes}
 use Rattle.whole.proofs.Laid.{laid_then}
-use borrow.Author.Rules.{rules}
 use Rattle.frames.proofs.answer.put_four.Goals as goal
 
 pub returns : goal.returns

@@ -8,7 +8,6 @@ use mir.Syntax.{w64}
 use mir.Val.{of_z}
 use Rattle.frames.proofs.number.Sign.{back}
 use Rattle.whole.proofs.Laid.{laid_same, laid_then}
-use borrow.Author.Rules.{rules}
 use Rattle.frames.proofs.answer.put_n8.Goals as goal
 
 pub returns : goal.returns

@@ -5,7 +5,6 @@ use lib.Seq.{length-take-le}
 use Rattle.whole.proofs.Tests.{passed, failed}
 use Rattle.frames.specs.Frame.{frame_of, line_frame}
 use Rattle.frames.proofs.Shapes.{long_line}
-use borrow.Author.Rules.{rules}
 use Rattle.frames.proofs.frame.frame_of.Goals as goal
 
 pub returns-then-line : goal.returns-then-line
@@ -19,8 +18,8 @@ unfolding line_frame
 returns-then-unhex c =
     let u = c.unhex in
     let t = c.if-unhex.true in
-    rw (passed u.ensures.0 t) (c.read_frame.ensures ∙ ap frame_of (u.ensures.1 t))
+    rw (passed u.ensures.right t) (c.read_frame.ensures ∙ ap frame_of (u.ensures.written t))
 
 pub returns : goal.returns
 unfolding line_frame
-returns c = rw (failed c.unhex.ensures.0 c.if-unhex.false) refl
+returns c = rw (failed c.unhex.ensures.right c.if-unhex.false) refl

@@ -2,7 +2,6 @@
 use mathlib.Core.Path.{refl}
 use borrow.Author.Tests.{eq-eqb, ne_eqb}
 use Rattle.frames.specs.Frame.{shaped}
-use borrow.Author.Rules.{rules}
 use Rattle.frames.proofs.frame.is_shaped.Goals as goal
 
 pub returns-then-bytes-size : goal.returns-then-bytes-size

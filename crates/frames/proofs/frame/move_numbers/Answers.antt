@@ -2,7 +2,6 @@
 use mathlib.Core.Path.{refl}
 use mir.Facts.{to_z-of_z}
 use Rattle.frames.specs.Frame.{move_numbers}
-use borrow.Author.Rules.{rules}
 use Rattle.frames.proofs.frame.move_numbers.Goals as goal
 
 pub returns : goal.returns

@@ -1,12 +1,10 @@
 -- `frame::read_frame` meets its contract: the tests are the definition's, in its order. Assumes nothing.
 use mathlib.Core.Path.{ap}
-use native.Mathlib.Omega.{arith}
 use mir.Facts.{to_z-of_z}
-use borrow.Author.Rules.{rules}
 use Rattle.whole.proofs.Chains.{chain}
 use Rattle.frames.specs.Frame.{frame_of}
 use Rattle.frames.specs.declared.frame.Frame.TheVariants.{Move, Order}
-use Rattle.frames.proofs.Shapes.{as_long, shapes}
+use Rattle.frames.proofs.Shapes.{shapes}
 use Rattle.frames.proofs.frame.read_frame.Goals as goal
 
 pub two_at-requires : goal.two_at-requires
@@ -20,18 +18,6 @@ n8_at-requires c = search shapes
 pub returns-then-is_shaped : goal.returns-then-is_shaped
 unfolding frame_of
 returns-then-is_shaped c = rw (to_z-of_z c.n8_at.ensures.1) (search chain depth 10)
-
-pub bounds-bytes-1 : goal.bounds-bytes-1
-unfolding frame_of
-bounds-bytes-1 c = search shapes
-
-pub bounds-bytes-2 : goal.bounds-bytes-2
-unfolding frame_of
-bounds-bytes-2 c = search shapes
-
-pub bounds-bytes-3 : goal.bounds-bytes-3
-unfolding frame_of
-bounds-bytes-3 c = search shapes
 
 pub returns-then-is_shaped-2 : goal.returns-then-is_shaped-2
 unfolding frame_of
@@ -53,17 +39,9 @@ pub returns-then-is_shaped-4 : goal.returns-then-is_shaped-4
 unfolding frame_of
 returns-then-is_shaped-4 c = search (chain, ap Order c.order_numbers.ensures) depth 10
 
-pub bounds-bytes-1-then-is_shaped-5 : goal.bounds-bytes-1-then-is_shaped-5
-unfolding frame_of
-bounds-bytes-1-then-is_shaped-5 c = omega (arith, as_long _ _ _ _ c.is_shaped-5.ensures c.if-is_shaped-5.true)
-
 pub returns-then-is_shaped-5 : goal.returns-then-is_shaped-5
 unfolding frame_of
 returns-then-is_shaped-5 c = search chain depth 10
-
-pub bounds-bytes-1-then-is_shaped-6 : goal.bounds-bytes-1-then-is_shaped-6
-unfolding frame_of
-bounds-bytes-1-then-is_shaped-6 c = omega (arith, as_long _ _ _ _ c.is_shaped-6.ensures c.if-is_shaped-6.true)
 
 pub returns-then-is_shaped-6 : goal.returns-then-is_shaped-6
 unfolding frame_of

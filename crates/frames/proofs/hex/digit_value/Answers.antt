@@ -1,6 +1,5 @@
 -- `hex::digit_value` meets its contract: the tests are the definition's, in its order. Assumes nothing.
 use native.Mathlib.Omega.{arith}
-use borrow.Author.Rules.{rules}
 use borrow.Author.Tests.{lt-ltb, le-ltb}
 use Rattle.frames.specs.Hex.{digit_value}
 use Rattle.frames.proofs.hex.digit_value.Goals as goal

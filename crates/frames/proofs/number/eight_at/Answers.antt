@@ -1,7 +1,6 @@
 -- `number::eight_at` meets its contract: the definition, read off. Assumes nothing.
 use native.Mathlib.Omega.{arith}
 use Rattle.frames.specs.Number.{eight}
-use borrow.Author.Rules.{rules}
 use Rattle.frames.proofs.number.eight_at.Goals as goal
 
 pub returns : goal.returns

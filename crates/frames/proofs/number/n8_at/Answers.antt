@@ -4,7 +4,6 @@ use mir.Syntax.{w64}
 use mir.Val.{to_z}
 use mir.Facts.{to_z-of_z}
 use Rattle.frames.specs.Number.{n8_at}
-use borrow.Author.Rules.{rules}
 use Rattle.frames.proofs.number.n8_at.Goals as goal
 
 pub returns : goal.returns
