@@ -2,7 +2,7 @@
 -- unless refused the floats' bits in the five numbers.
 -- Assumes nothing.
 use Rattle.std.specs.Prelude.{not, List, [], ◌∷◌, ◌++◌, ℕ, eqb, length}
-use Rattle.std.specs.Borrow.{Bor}
+use Rattle.std.specs.Borrow.{MutBor}
 use denote.Triple.Both.{Both}
 use Rattle.whole.specs.Refusals.{Refusal, ◌gives◌, first_code, leaves, wrong_length, out_of_bounds}
 use Rattle.rates.specs.Lent.{Tables}
@@ -31,7 +31,7 @@ pub record Sent : Type 0 where
 
 -- as a contract names it; numbers that are lent are a pair, as they were found and as they were left
 abbrev pub LentBits : Type 0
-LentBits = Both (Bor (List ℕ)) (Bor (List ℕ))
+LentBits = Both (MutBor (List ℕ)) (MutBor (List ℕ))
 
 abbrev pub sent : Fed → LentBits → Sent
 sent fed bits = record { fed = fed; bits = bits.exit.now }

@@ -1,6 +1,6 @@
 ghost use Rattle.std.specs.Prelude.{◌≡◌};
 ghost use Rattle.rates.specs.Lent.{given};
-ghost use Rattle.engine.specs.State.{found};
+ghost use Rattle.engine.specs.State.{state};
 ghost use Rattle.engine.specs.Refused.{place_of};
 ghost use Rattle.engine.specs.Report.{no_figures};
 ghost use Rattle.app_feed.specs.Feed.{fed_of, sent, sent_of};

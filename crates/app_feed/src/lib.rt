@@ -1,3 +1,5 @@
+#![tactic(auto)]
+
 mod feeding;
 mod floats;
 pub mod gauge;

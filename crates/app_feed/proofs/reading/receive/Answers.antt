@@ -14,8 +14,7 @@ use Rattle.app_feed.specs.Floats.{floats_of, floats_at}
 use Rattle.app_feed.specs.Received.{read_refusals, received_of}
 use Rattle.app_feed.specs.declared.floats.Floats.{Floats}
 use Rattle.app_feed.specs.declared.reading.Received.{Received}
-use Rattle.app_feed.proofs.reading.receive.Statement.{statement}
-use Rattle.app_feed.proofs.reading.receive.Tie as tie
+use Rattle.app_feed.proofs.reading.receive.Goals as goal
 
 -- refused, or not
 turned_away : (bits : List ℕ) {n : ℕ} {r : Received} → Code (read_refusals bits) n → (n ≡ 0 → ⊥) → r ≡ record { code = n; figures = floats_of no_figures }
@@ -29,32 +28,20 @@ read : (bits : List ℕ) {x : Floats} → Code (read_refusals bits) 0 → x ≡ 
 unfolding received_of
 read bits p e = λ i. record { code = code p i; figures = (e ∙ changed _ (floats_at bits) (floats_of no_figures) (sym (code p))) i }
 
-returns : tie.Need-returns
-returns c = turned_away _ (hit (ap not (ne_eqb _ 5 c.before.if1.true))) (λ z. absurd (omega arith)) c.refused.ensures
+pub returns-then-bits-ne-COUNT : goal.returns-then-bits-ne-COUNT
+returns-then-bits-ne-COUNT c = turned_away _ (hit (ap not (ne_eqb _ 5 c.if-bits-ne-COUNT.true))) (λ z. absurd (omega arith)) c.refused.ensures
 
-returns-2 : tie.Need-returns-2
-returns-2 c =
+pub returns-then-not-all_patterns : goal.returns-then-not-all_patterns
+returns-then-not-all_patterns c =
     turned_away _
-    (miss (denied (eq-eqb _ 5 c.before.before.before.if1.false)) (hit (ap not (taken c.before.before.all-patterns.ensures c.before.if2.true))))
-    (λ z. absurd (omega arith)) c.refused2.ensures
+    (miss (denied (eq-eqb _ 5 c.if-bits-ne-COUNT.false)) (hit (ap not (taken c.all_patterns.ensures c.if-not-all_patterns.true-raw))))
+    (λ z. absurd (omega arith)) c.refused-then-not-all_patterns.ensures
 
-floats-at-requires : tie.Need-floats-at-requires
-floats-at-requires c κs = (c.before.before.if1.false, left c.before.all-patterns.ensures c.if2.false)
+pub floats_at-requires : goal.floats_at-requires
+floats_at-requires c = (c.if-bits-ne-COUNT.false, left c.all_patterns.ensures c.if-not-all_patterns.false-raw)
 
-returns-3 : tie.Need-returns-3
-returns-3 c =
+pub returns : goal.returns
+returns c =
     read _
-    (miss (denied (eq-eqb _ 5 c.before.before.before.if1.false)) (miss (denied (left c.before.before.all-patterns.ensures c.before.if2.false)) none))
-    c.Floats-at.ensures
-
-pub receive-spec : {M : Type 1} → statement M
-receive-spec =
-    tie.close
-    (tie.spec
-    (λ c κs. search rules)
-    returns
-    (λ c κs. search rules)
-    (λ c κs. search rules)
-    returns-2
-    floats-at-requires
-    returns-3)
+    (miss (denied (eq-eqb _ 5 c.if-bits-ne-COUNT.false)) (miss (denied (left c.all_patterns.ensures c.if-not-all_patterns.false-raw)) none))
+    c.floats_at.ensures

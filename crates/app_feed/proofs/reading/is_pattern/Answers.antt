@@ -6,8 +6,7 @@ use lib.Dec.{leb, ltb}
 use lib.Ieee.{binary64}
 use lib.Ieee.Bits.{nan_bits_above}
 use borrow.Author.Tests.{lt-ltb, le-ltb, leb-true, leb-false}
-use Rattle.app_feed.proofs.reading.is_pattern.Statement.{statement}
-use Rattle.app_feed.proofs.reading.is_pattern.Tie as tie
+use Rattle.app_feed.proofs.reading.is_pattern.Goals as goal
 
 not-above : (a b : ℕ) → leb a b ≡ not (ltb b a)
 not-above a b = go (leb a b) refl
@@ -16,8 +15,5 @@ not-above a b = go (leb a b) refl
     go true e = sym (ap not (le-ltb b a (leb-true a b e)))
     go false e = sym (ap not (lt-ltb b a (leb-false a b e)))
 
-returns : tie.Need-returns
+pub returns : goal.returns
 returns c = not-above (c.args.bits % 9223372036854775808) 9218868437227405312 ∙ sym (ap not (nan_bits_above binary64 c.args.bits))
-
-pub is-pattern-spec : {M : Type 1} → statement M
-is-pattern-spec = tie.close (tie.spec returns)

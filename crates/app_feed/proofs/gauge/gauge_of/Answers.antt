@@ -18,8 +18,8 @@ use Rattle.app_feed.specs.Floats.{float}
 use Rattle.app_feed.specs.Gauge.{used, gauge_of}
 use Rattle.app_feed.specs.declared.gauge.Gauge.TheVariants.{Over, Used}
 use Rattle.app_feed.proofs.Exact.{fits_small, cast}
-use Rattle.app_feed.proofs.gauge.gauge_of.Statement.{statement}
-use Rattle.app_feed.proofs.gauge.gauge_of.Tie as tie
+use Rattle.app_feed.proofs.gauge.gauge_of.Goals as goal
+use Rattle.app_feed.proofs.gauge.gauge_of.Goals.{After-struct_told-4-1, Else-valuation-le0, Start}
 
 -- the shortfall and the sums, as the code works them out
 module _ (f : Figures) (below : Below2^53 f) where
@@ -65,84 +65,64 @@ tested : (test : ℤ → Bool) (z : ℤ) {b : Bool} → nat_abs z < 2 ^ 53 → t
 tested test z h e = sym (ap test (to_z-of_z (fits_small z h))) ∙ e
 
 -- past the first test the valuation is above zero
-not-empty : (c : tie.Else1) → le_z c.before.before.before.args.f.valuation (pos 0) ≡ false
+not-empty : (c : Else-valuation-le0) → le_z c.args.f.valuation (pos 0) ≡ false
 not-empty c =
-    let s = c.before.before.before in
-    tested (λ z. le_z z (pos 0)) s.args.f.valuation s.requires.0.valuation_below c.if1.false
+    tested (λ z. le_z z (pos 0)) c.args.f.valuation c.requires.0.valuation_below c.if-valuation-le0.false
 
-returns : tie.Need-returns
+pub returns-then-valuation-le0 : goal.returns-then-valuation-le0
 unfolding gauge_of
-returns c =
-    let s = c.before.before.before in
-    rw (tested (λ z. le_z z (pos 0)) s.args.f.valuation s.requires.0.valuation_below c.if1.true) refl
+returns-then-valuation-le0 c =
+    rw (tested (λ z. le_z z (pos 0)) c.args.f.valuation c.requires.0.valuation_below c.if-valuation-le0.true) refl
 
-sub-exact : tie.Need-overflow-sub-exact
-sub-exact c = let s = c.before.before.before.before in need! (shortfall s.args.f s.requires.0) (shortfall-runs s.args.f s.requires.0)
+pub overflow_sub-limit : goal.overflow_sub-limit
+overflow_sub-limit c = need! (shortfall c.args.f c.requires.0) (shortfall-runs c.args.f c.requires.0)
 
-exact-requires : tie.Need-exact-requires
-exact-requires c κs =
-    let s = c.before.before.before.before in
-    rw (runs (shortfall s.args.f s.requires.0) (shortfall-runs s.args.f s.requires.0)) (shortfall-small s.args.f s.requires.0)
+pub exact-requires : goal.exact-requires
+exact-requires c =
+    rw (runs (shortfall c.args.f c.requires.0) (shortfall-runs c.args.f c.requires.0)) (shortfall-small c.args.f c.requires.0)
 
-returns-2 : tie.Need-returns-2
+pub returns-then-limit-lt0 : goal.returns-then-limit-lt0
 unfolding gauge_of
-returns-2 c =
-    let s = c.before.before.before.before.before in
-    let f = s.args.f in
-    let below = s.requires.0 in
+returns-then-limit-lt0 c =
+    let f = c.args.f in
+    let below = c.requires.0 in
     let e : c.exact.result ≡ float (neg_ℤ f.limit) =
     c.exact.ensures ∙ ap float (runs (shortfall f below) (shortfall-runs f below) ∙ +ℤ_idl (neg_ℤ f.limit)) in
-    let over = tested (λ z. lt_z z (pos 0)) f.limit below.limit_below c.before.if2.true in
+    let over = tested (λ z. lt_z z (pos 0)) f.limit below.limit_below c.if-limit-lt0.true in
     rw (not-empty c.before.before, over)
     (ap Over e)
 
-add-used : tie.Need-overflow-add-used
-add-used c = let s = c.before.before.before.before.before.before in need! (risks s.args.f s.requires.0) (risks-run s.args.f s.requires.0)
+pub overflow_add-used : goal.overflow_add-used
+overflow_add-used c = need! (risks c.args.f c.requires.0) (risks-run c.args.f c.requires.0)
 
-sub_used : tie.Need-overflow-sub-used
-sub_used c =
-    let s = c.before.before.before.before.before.before.before.before in
-    need! (risks s.args.f s.requires.0 ⊖ var s.args.f.discount) (used_runs s.args.f s.requires.0)
+pub overflow_sub-used : goal.overflow_sub-used
+overflow_sub-used c =
+    need! (risks c.args.f c.requires.0 ⊖ var c.args.f.discount) (used_runs c.args.f c.requires.0)
 
 -- where neither test holds
-module _ (c : tie.After-struct-told4) where
-  abbrev start : tie.Start
+module _ (c : After-struct_told-4-1) where
+  abbrev start : Start
   start = c.before.before.before.before.before.before.before.before
 
   abbrev f : Figures
   f = start.args.f
 
   not-over : lt_z f.limit (pos 0) ≡ false
-  not-over = tested (λ z. lt_z z (pos 0)) f.limit start.pre.0.limit_below c.before.before.before.before.if2.false
+  not-over = tested (λ z. lt_z z (pos 0)) f.limit start.requires.0.limit_below c.if-limit-lt0.false
 
-exact-requires-2 : tie.Need-exact-requires-2
-exact-requires-2 c κs =
+pub exact-requires-2 : goal.exact-requires-2
+exact-requires-2 c =
     let s = start c in
     rw (runs (risks (f c) s.pre.0 ⊖ var (f c).discount) (used_runs (f c) s.pre.0))
     (share-small (used (f c)) (f c).valuation (f c).limit s.pre.1.used_from_zero s.pre.1.limit_is (not-over c) s.pre.0.valuation_below)
 
-returns-3 : tie.Need-returns-3
+pub returns : goal.returns
 unfolding gauge_of
-returns-3 c =
-    let told = c.before.before in
-    let s = start told in
+returns c =
+    let s = start c.before.before in
     let f = s.args.f in
     let below = s.pre.0 in
-    let e : c.before.exact2.result ≡ float (used f) = c.before.exact2.ensures ∙ ap float (runs (risks f below ⊖ var f.discount) (used_runs f below)) in
-    let v : c.exact3.result ≡ float f.valuation = cast (fits_small f.valuation below.valuation_below) c.exact3.ensures in
-    rw (not-empty told.before.before.before.before.before, not-over told)
+    let e : c.exact-2.result ≡ float (used f) = c.exact-2.ensures ∙ ap float (runs (risks f below ⊖ var f.discount) (used_runs f below)) in
+    let v : c.exact-3.result ≡ float f.valuation = cast (fits_small f.valuation below.valuation_below) c.exact-3.ensures in
+    rw (not-empty c.before.before.before.before.before.before.before, not-over c.before.before)
     (λ i. Used (div binary64 (e i) (v i)))
-
-pub gauge-of-spec : {M : Type 1} → statement M
-gauge-of-spec =
-    tie.close
-    (tie.spec
-    returns
-    sub-exact
-    exact-requires
-    returns-2
-    add-used
-    sub_used
-    exact-requires-2
-    (λ c κs. search rules)
-    returns-3)
