@@ -6,24 +6,20 @@ use mir.Val.{SFits}
 use mir.Facts.{to_z-of_z}
 use Rattle.frames.specs.Answer.{answer_line, written}
 use borrow.Author.Rules.{rules}
-use Rattle.session_lines.proofs.answer.put_report.Statement.{statement}
-use Rattle.session_lines.proofs.answer.put_report.Tie as tie
+use Rattle.session_lines.proofs.answer.put_report.Goals as goal
+use Rattle.session_lines.proofs.answer.put_report.Goals.{After-slice_known-2-1, Start}
 
-abbrev s : tie.After-slice-known2 → tie.Start
+abbrev s : After-slice_known-2-1 → Start
 s c = c.before.before.before.before.before.before.before.before
 
 -- the figures, read back from their bits
-fits : (c : tie.After-slice-known2) → let f = (s c).args.reported.figures in
+fits : (c : After-slice_known-2-1) → let f = (s c).args.reported.figures in
     SFits w64 f.valuation × SFits w64 f.market × SFits w64 f.interest × SFits w64 f.discount × SFits w64 f.limit
 fits c = search rules
 
-returns : tie.Need-returns
+pub returns : goal.returns
 returns c =
     let f = fits c in
-    c.before.before.put-answer.ensures
+    c.put_answer.ensures
     ∙ (λ i. written (s c).args.out.now (s c).args.at (answer_line (s c).args.reported.code
     (to_z-of_z f.0 i ∷ to_z-of_z f.1 i ∷ to_z-of_z f.2 i ∷ to_z-of_z f.3 i ∷ to_z-of_z f.4 i ∷ [])))
-
-pub put-report-spec : {M : Type 1} → statement M
-put-report-spec =
-    tie.close (tie.spec (λ c. search rules) (λ c κs. search rules) (λ c. search rules) returns)

@@ -1,0 +1,16 @@
+-- `stream::end` meets its contract: a line of no bytes stays, and any other ends as a newline ends it. Assumes nothing.
+use mathlib.Core.Path.{refl, sym, ◌∙◌}
+use native.Mathlib.Omega.{arith}
+use borrow.Author.Rules.{rules}
+use Rattle.session_lines.specs.Stream.{ended}
+use Rattle.session_lines.proofs.stream.end.Goals as goal
+
+pub returns-then-is_blank : goal.returns-then-is_blank
+unfolding ended
+returns-then-is_blank c = (rw (sym c.is_blank.ensures ∙ c.if-is_blank.true) refl, (omega arith, λ h. h))
+
+pub returns : goal.returns
+unfolding ended
+returns c =
+    let fed = c.feed.ensures in
+    (rw (sym c.is_blank.ensures ∙ c.if-is_blank.false) fed.0, (fed.1.inside, fed.1.counted))
