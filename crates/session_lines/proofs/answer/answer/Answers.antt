@@ -14,12 +14,12 @@ use Rattle.frames.specs.Answer.{answer_line, Written, written}
 use Rattle.frames.specs.declared.frame.Frame.TheVariants.{Parameter}
 use Rattle.session_lines.specs.Session.{Memory, Answered, coded, place_code, parameter_set, report_line, answered}
 use Rattle.session_lines.proofs.answer.answer.Goals as goal
-use Rattle.session_lines.proofs.answer.answer.Goals.{In-Parameter, Start}
+use Rattle.session_lines.proofs.answer.answer.Goals.{Start}
 
 -- what was found and what is to be answered; and that a memory was left and a line written so
 module _ (s : Start) where
   abbrev m : Memory
-  m = record { state = state s.args.book; parameters = s.args.parameters.now }
+  m = record { state = state s.args.book.now; parameters = s.args.parameters.now }
 
   abbrev answer : Answered
   answer = answered m s.args.frame
@@ -51,35 +51,44 @@ module _ (s : Start) where
       → wrote ≡ put (report_line reported) → Done m wrote
   by-report same e p = rw e (refl, p ∙ ap (λ (r : Reported). put (report_line r)) same)
 
--- the number that a parameter is set to fits
-number_fits : (c : In-Parameter) → SFits w64 c.in-Parameter.number
-number_fits c = search rules
-
 pub returns-in-Parameter : goal.returns-in-Parameter
 unfolding answered
-returns-in-Parameter c = by-setting c.before.before.before.before.before.before.before.before.before.before c.in-Parameter.is (simp (to_z-of_z (number_fits c.before.before.before.before.before.before.before.before)) at c.set_parameter.ensures)
-    c.put_code.ensures
+returns-in-Parameter c =
+    let number_fits : SFits w64 c.in-Parameter.number = search rules in
+    let e = by-setting c.before.before.before.before.before.before.before.before.before.before c.in-Parameter.is (simp (to_z-of_z number_fits) at c.set_parameter.ensures)
+    c.put_code.ensures in
+    record { kept = e.0; said = e.1 }
 
 pub returns-in-Open : goal.returns-in-Open
 unfolding answered
-returns-in-Open c = by_call c.before.before.before.before.before.before.before.before.before.before c.«open».ensures (ap (answered _) c.in-Open.is) c.put_code-in-Open.ensures
+returns-in-Open c =
+    let e = by_call c.before.before.before.before.before.before.before.before.before.before c.«open».ensures (ap (answered _) c.in-Open.is) c.put_code-in-Open.ensures in
+    record { kept = e.0; said = e.1 }
 
 pub returns-in-Move : goal.returns-in-Move
 unfolding answered
-returns-in-Move c = by_call c.before.before.before.before.before.before.before.before.before.before c.move_collateral.ensures (ap (answered _) c.in-Move.is) c.put_code-in-Move.ensures
+returns-in-Move c =
+    let e = by_call c.before.before.before.before.before.before.before.before.before.before c.move_collateral.ensures (ap (answered _) c.in-Move.is) c.put_code-in-Move.ensures in
+    record { kept = e.0; said = e.1 }
 
 pub returns-in-Order : goal.returns-in-Order
 unfolding answered
-returns-in-Order c = by_call c.before.before.before.before.before.before.before.before.before.before c.order.ensures (ap (answered _) c.in-Order.is) c.put_code-in-Order.ensures
+returns-in-Order c =
+    let e = by_call c.before.before.before.before.before.before.before.before.before.before c.order.ensures (ap (answered _) c.in-Order.is) c.put_code-in-Order.ensures in
+    record { kept = e.0; said = e.1 }
 
 pub returns-in-Roll : goal.returns-in-Roll
 unfolding answered
-returns-in-Roll c = by_call c.before.before.before.before.before.before.before.before.before.before c.roll.ensures (ap (answered _) c.in-Roll.is) c.put_code-in-Roll.ensures
+returns-in-Roll c =
+    let e = by_call c.before.before.before.before.before.before.before.before.before.before c.roll.ensures (ap (answered _) c.in-Roll.is) c.put_code-in-Roll.ensures in
+    record { kept = e.0; said = e.1 }
 
 pub returns-in-Report : goal.returns-in-Report
 unfolding answered
-returns-in-Report c = by-report c.before.before.before.before.before.before.before.before c.report.ensures (ap (answered _) c.in-Report.is) c.put_report.ensures
+returns-in-Report c =
+    let e = by-report c.before.before.before.before.before.before.before.before c.report.ensures (ap (answered _) c.in-Report.is) c.put_report.ensures in
+    record { kept = e.0; said = e.1 }
 
 pub returns-in-Malformed : goal.returns-in-Malformed
 unfolding answered
-returns-in-Malformed c = rw c.in-Malformed.is record { kept = refl; said = c.put_code-in-Malformed.ensures }
+returns-in-Malformed c = rw c.in-Malformed.is (record { kept = refl; said = c.put_code-in-Malformed.ensures })

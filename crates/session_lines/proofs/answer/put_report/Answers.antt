@@ -7,19 +7,10 @@ use mir.Facts.{to_z-of_z}
 use Rattle.frames.specs.Answer.{answer_line, written}
 use borrow.Author.Rules.{rules}
 use Rattle.session_lines.proofs.answer.put_report.Goals as goal
-use Rattle.session_lines.proofs.answer.put_report.Goals.{After-slice_known-2-1, Start}
-
-abbrev s : After-slice_known-2-1 → Start
-s c = c.before.before.before.before.before.before.before.before
-
--- the figures, read back from their bits
-fits : (c : After-slice_known-2-1) → let f = (s c).args.reported.figures in
-    SFits w64 f.valuation × SFits w64 f.market × SFits w64 f.interest × SFits w64 f.discount × SFits w64 f.limit
-fits c = search rules
 
 pub returns : goal.returns
 returns c =
-    let f = fits c in
+    let f : (let f = c.args.reported.figures in SFits w64 f.valuation × SFits w64 f.market × SFits w64 f.interest × SFits w64 f.discount × SFits w64 f.limit) = search rules in
     c.put_answer.ensures
-    ∙ (λ i. written (s c).args.out.now (s c).args.at (answer_line (s c).args.reported.code
+    ∙ (λ i. written c.args.out.now c.args.at (answer_line c.args.reported.code
     (to_z-of_z f.0 i ∷ to_z-of_z f.1 i ∷ to_z-of_z f.2 i ∷ to_z-of_z f.3 i ∷ to_z-of_z f.4 i ∷ [])))

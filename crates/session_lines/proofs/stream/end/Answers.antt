@@ -7,10 +7,10 @@ use Rattle.session_lines.proofs.stream.end.Goals as goal
 
 pub returns-then-is_blank : goal.returns-then-is_blank
 unfolding ended
-returns-then-is_blank c = (rw (sym c.is_blank.ensures ∙ c.if-is_blank.true) refl, (omega arith, λ h. h))
+returns-then-is_blank c = record { ended = rw (sym c.is_blank.ensures ∙ c.if-is_blank.true) refl; inside = omega arith; counted = λ h. h }
 
 pub returns : goal.returns
 unfolding ended
 returns c =
     let fed = c.feed.ensures in
-    (rw (sym c.is_blank.ensures ∙ c.if-is_blank.false) fed.0, (fed.1.inside, fed.1.counted))
+    record { ended = rw (sym c.is_blank.ensures ∙ c.if-is_blank.false) fed.fed; inside = fed.took.inside; counted = fed.took.counted }

@@ -25,9 +25,9 @@ loop-i-preserved-then-piece-i-ne-NEWLINE c =
       inside = omega arith;
       room = j.invariant.room;
       long = j.invariant.long;
-      counted = λ _. h.1;
+      counted = λ _. h.counted;
       rest = j.invariant.rest ∙ byte_taken _ _ c.loop-i-test.true c.if-piece-i-ne-NEWLINE.true
-          (λ k. let m = (stream_in j.book j.parameters [] 0).memory in fedIn (record { line = h.0 k; memory = m }) j.out j.at (j.i + 1));
+          (λ k. let m = (stream_in j.book j.parameters [] 0).memory in fedIn (record { line = h.grown k; memory = m }) j.out j.at (j.i + 1));
     }
 
 -- where it stops
@@ -47,7 +47,8 @@ stops {s} {count} {out} {piece} {f} k e =
 pub returns-then-out-at-lt-LONGEST_ANSWER : goal.returns-then-out-at-lt-LONGEST_ANSWER
 returns-then-out-at-lt-LONGEST_ANSWER c =
     let j = c.loop-i in
-    stops j.invariant (line_waits _ _ c.loop-i-test.true c.if-piece-i-ne-NEWLINE.false (omega arith))
+    let e = stops j.invariant (line_waits _ _ c.loop-i-test.true c.if-piece-i-ne-NEWLINE.false (omega arith)) in
+    record { fed = e.0; took = e.1 }
 
 -- a line answered: by its frame, read from what memory holds
 line-closed : (f : Fed) (line : List ℕ) {frame : Frame} {memory : Memory} {out : Written} → frame ≡ frame_held f.stream.line
@@ -58,7 +59,6 @@ line-closed f line same kept said = let m = f.stream.memory in λ k. record {
   used = f.used + 1;
   stream = record { line = begun []; memory = (kept ∙ ap (λ (r : Frame). (answered m r).memory) same) k };
   out = (said ∙ ap (λ (r : Frame). written f.out.bytes f.out.at (answered m r).line) same) k;
-
 }
 
 pub loop-i-preserved : goal.loop-i-preserved
@@ -68,12 +68,14 @@ loop-i-preserved c =
     let a = c.answer-at.ensures in
     record {
       inside = omega arith;
-      room = written-inside f.out _ a.1 j.invariant.room;
+      room = written-inside f.out _ a.said j.invariant.room;
       long = omega arith;
       counted = λ _. omega arith;
       rest = j.invariant.rest ∙ line_taken _ _ c.loop-i-test.true c.if-piece-i-ne-NEWLINE.false (omega arith)
-          (line-closed f j.line c.frame_held.ensures a.0 a.1);
+          (line-closed f j.line c.frame_held.ensures a.kept a.said);
     }
 
 pub returns : goal.returns
-returns c = let j = c.loop-i in stops j.invariant (piece_ends _ _ (omega arith))
+returns c =
+    let e = stops c.loop-i.invariant (piece_ends _ _ (omega arith)) in
+    record { fed = e.0; took = e.1 }
