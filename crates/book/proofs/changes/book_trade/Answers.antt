@@ -18,7 +18,6 @@ add-requires c = let at = c.before.before.before in let s = at.before in let r =
   rw e (quantity_inside _ r s.args.block.now s.requires.bounded.long),
   rw e (quantity_before _ _ s.requires),
   subst (λ (z : ℤ). z within large) (sym (to_z-of_z r.quantity_within.fits)) (wider large r.quantity_within (omega arith)),
-
 )
 
 -- the block after the first of the two

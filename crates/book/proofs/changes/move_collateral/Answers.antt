@@ -16,7 +16,6 @@ add-requires c = let s = c.before.before in let e = c.move_at.ensures in (
   omega (arith, e.1, s.requires.bounded.long),
   rw e.0 (before_move _ _ _ s.requires),
   subst (λ (z : ℤ). z within large) (sym (to_z-of_z s.ranges.amount)) s.requires.amount_within,
-
 )
 
 pub returns : goal.returns

@@ -14,7 +14,6 @@ fits_after-requires c = let s = c.before.before.before in let e = c.move_at.ensu
   omega (arith, e.1, s.requires.bounded.long),
   rw e.0 (before_move _ _ _ s.requires),
   subst (λ (z : ℤ). z within large) (sym (to_z-of_z s.ranges.amount)) s.requires.amount_within,
-
 )
 
 pub returns : goal.returns

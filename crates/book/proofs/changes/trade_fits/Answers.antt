@@ -19,7 +19,6 @@ fits_after-requires c = let s = c.before.before in let e = c.trade_at.ensures in
   rw e (quantity_inside _ s.requires.ranges s.args.block.now s.requires.bounded.long),
   rw e (quantity_before _ _ s.requires),
   subst (λ (z : ℤ). z within large) (sym (to_z-of_z s.requires.ranges.quantity_within.fits)) (wider large s.requires.ranges.quantity_within (omega arith)),
-
 )
 
 pub returns-then-not-fits_after : goal.returns-then-not-fits_after
@@ -32,7 +31,6 @@ fits_after-requires-2 c = let s = c.before.before.before.before.before.before in
   net_inside _ s.requires.ranges s.args.block.now s.requires.bounded.long,
   net_before _ _ s.requires,
   subst (λ (z : ℤ). z within large) (sym (to_z-of_z m.1.fits)) m.1,
-
 )
 
 pub returns : goal.returns

@@ -32,7 +32,7 @@ loop-a-preserved c =
       l.invariant.0,
       omega arith,
       every_next (listed_if_held _ _) l.a l.invariant.2 (elim c.if-not-is_listed.branch [
-        then-not-is_listed+else-not-all_zero w ↦ either_right (listed _ l.a) _ (ap all_zero (sym (lent_holding _ l.a)) ∙ left w.all_zero.ensures w.if-not-all_zero.false-raw)
+        | then-not-is_listed+else-not-all_zero w ↦ either_right (listed _ l.a) _ (ap all_zero (sym (lent_holding _ l.a)) ∙ left w.all_zero.ensures w.if-not-all_zero.false-raw)
         | else-not-is_listed w ↦ either_left _ _ (left c.is_listed.ensures w.if-not-is_listed.false-raw)
       ]),
     )

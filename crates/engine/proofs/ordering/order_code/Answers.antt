@@ -67,7 +67,6 @@ pub trade_fits-requires : goal.trade_fits-requires
 trade_fits-requires c = let p = passed c.before.before.before.before in record {
   bounded = subst Bounded (sym c.block_of.ensures.0) (bounded p.judgeable);
   ranges = subst TradeRanges (sym c.trade_of.ensures) (trade_ranges _ (ranges c.before.before));
-
 }
 
 past-checks : (c : After-trade_fits) {n : ℕ} → n ≡ first_code (nine c.before.before.before.before.before.before.before) → n ≡ first_code (first c.before.before.before.before.before.before.before ++ (checks c.before.before.before.before.before.before.before ++ nine c.before.before.before.before.before.before.before))
