@@ -2,7 +2,6 @@
 use mathlib.Core.Path.{◌≡◌, sym, ap, ap₂, ◌∙◌, subst}
 use native.Mathlib.Omega.{arith}
 use lib.IntN.{ℤ, ◌+ℤ◌, ◌-ℤ◌, ◌*ℤ◌}
-use borrow.Author.Rules.{rules}
 use Rattle.whole.specs.Numbers.{min_ℤ}
 use Rattle.whole.specs.Bounds.{◌within◌, ◌upto◌}
 use Rattle.whole.proofs.Bounds.{upto_within, product_within}

@@ -4,7 +4,6 @@ use mathlib.Core.Path.{sym, ◌∙◌, subst}
 use native.Mathlib.Omega.{arith}
 use lib.IntN.{ℤ}
 use mir.Facts.{to_z-of_z}
-use borrow.Author.Rules.{rules}
 use Rattle.whole.specs.Bounds.{◌within◌, ◌upto◌}
 use Rattle.whole.proofs.Bounds.{upto_within}
 use Rattle.whole.proofs.Machine.{back}

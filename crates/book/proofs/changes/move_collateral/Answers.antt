@@ -4,7 +4,6 @@ use Prim.Native.Nat.{ℕ}
 use lib.IntN.{ℤ}
 use native.Mathlib.Omega.{arith}
 use mir.Facts.{to_z-of_z}
-use borrow.Author.Rules.{rules}
 use Rattle.whole.specs.Bounds.{◌within◌}
 use Rattle.book.specs.Changes.{added, moved}
 use Rattle.book.proofs.Amounts.{large}

@@ -3,7 +3,6 @@ use mathlib.Core.Path.{sym, ◌∙◌, subst}
 use native.Mathlib.Omega.{arith}
 use lib.IntN.{ℤ}
 use mir.Facts.{to_z-of_z}
-use borrow.Author.Rules.{rules}
 use Rattle.whole.specs.Bounds.{◌within◌}
 use Rattle.book.proofs.Amounts.{large}
 use Rattle.book.proofs.Moves.{before_move, move_test}

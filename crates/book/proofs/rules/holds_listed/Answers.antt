@@ -1,12 +1,7 @@
 -- `rules::holds_listed` meets its contract. The loop's invariant: before asset a, nothing is held of an unlisted one. Assumes nothing.
-use mathlib.Core.Path.{◌≡◌, sym, ap, ◌∙◌}
-use mathlib.Core.Logic.{⊎_elim}
-use mathlib.Core.Bool.{true}
-use Prim.Native.Nat.{◌-◌, ◌≤◌}
+use mathlib.Core.Path.{sym, ap, ◌∙◌}
 use native.Mathlib.Omega.{arith}
-use lib.ListN.{length}
-use borrow.Author.Rules.{rules}
-use Rattle.whole.specs.Marks.{all_zero, every}
+use Rattle.whole.specs.Marks.{all_zero}
 use Rattle.whole.proofs.Tests.{left, taken, either_left, either_right, neither}
 use Rattle.whole.proofs.Every.{every_none, every_out, every_next, every_done}
 use Rattle.rates.specs.Tables.{listed}

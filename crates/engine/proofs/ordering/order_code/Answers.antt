@@ -4,7 +4,6 @@ use mathlib.Core.Bool.{not}
 use mathlib.Core.List.{List, [], ◌∷◌, ◌++◌}
 use Prim.Native.Nat.{ℕ}
 use lib.IntN.{ℤ}
-use borrow.Author.Rules.{rules}
 use Rattle.whole.specs.Refusals.{Refusal, ◌gives◌, first_code, out_of_bounds}
 use Rattle.whole.proofs.Refusals.{none, hit, miss, code, stops, follows}
 use Rattle.whole.proofs.Tests.{left, taken}

@@ -4,7 +4,6 @@ use mathlib.Core.Path.{◌≡◌, sym, ap, ◌∙◌}
 use mathlib.Core.Bool.{not}
 use mathlib.Core.List.{List, [], ◌∷◌, ◌++◌}
 use lib.IntN.{ℤ}
-use borrow.Author.Rules.{rules}
 use borrow.Author.Tests.{not-false}
 use Rattle.whole.specs.Refusals.{Refusal, ◌gives◌, first_code}
 use Rattle.whole.proofs.Refusals.{none, hit, miss, code, none_holds, stops, follows}
