@@ -1,5 +1,4 @@
 -- `feeding::refused` meets its contract: zeros have the empty gauge. Assumes nothing.
-use borrow.Author.Rules.{rules}
 use Rattle.app_feed.specs.Gauge.{gauge_of}
 use Rattle.app_feed.specs.Feed.{fed_of}
 use Rattle.app_feed.specs.declared.gauge.Gauge.TheVariants.{Empty}

@@ -1,6 +1,5 @@
 -- `floats::exact` meets its contract: a number below 2^53 in size is one that the cast keeps. Assumes nothing.
 use mir.Facts.{to_z-of_z}
-use borrow.Author.Rules.{rules}
 use Rattle.app_feed.proofs.Exact.{in_float_lem}
 use Rattle.app_feed.proofs.floats.exact.Goals as goal
 

@@ -1,5 +1,4 @@
 -- `floats::floats_of` meets its contract: figure by figure. Assumes nothing.
-use borrow.Author.Rules.{rules}
 use Rattle.app_feed.specs.Floats.{floats_of}
 use Rattle.app_feed.proofs.Exact.{fits_small, cast}
 use Rattle.app_feed.proofs.floats.floats_of.Goals as goal

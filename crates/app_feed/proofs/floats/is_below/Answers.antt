@@ -1,6 +1,5 @@
 -- `floats::is_below` meets its contract: the test is one of bounds. Assumes nothing.
 use lib.IntN.{pos, neg_ℤ}
-use borrow.Author.Rules.{rules}
 use Rattle.whole.proofs.Parameters.{heard}
 use Rattle.app_feed.specs.Floats.{most_exact}
 use Rattle.app_feed.proofs.floats.is_below.Goals as goal

@@ -1,5 +1,4 @@
 -- `floats::no_floats` meets its contract: the float of zero, five times. Assumes nothing.
-use borrow.Author.Rules.{rules}
 use Rattle.app_feed.specs.Floats.{floats_of}
 use Rattle.app_feed.proofs.floats.no_floats.Goals as goal
 

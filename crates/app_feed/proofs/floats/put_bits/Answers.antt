@@ -1,7 +1,6 @@
 -- `floats::put_bits` meets its contract: five stores fill five numbers. Assumes nothing.
 use native.Mathlib.Omega.{arith}
 use lib.ListN.{length-set}
-use borrow.Author.Rules.{rules}
 use Rattle.app_feed.specs.Floats.{bits_of}
 use Rattle.app_feed.proofs.Five.{filled}
 use Rattle.app_feed.proofs.floats.put_bits.Goals as goal

@@ -3,11 +3,10 @@ use mathlib.Core.Path.{◌≡◌, refl, sym, ap, ◌∙◌}
 use mathlib.Core.Bool.{Bool, false}
 use Prim.Native.Nat.{◌<◌, ◌^◌}
 use native.Mathlib.Omega.{arith}
-use lib.IntN.{ℤ, pos, neg_ℤ, nat_abs, ◌+ℤ◌, ◌-ℤ◌, +ℤ_idl}
+use lib.IntN.{ℤ, pos, neg_ℤ, nat_abs, ◌-ℤ◌, +ℤ_idl}
 use lib.Signed.{le_z, lt_z, ◌≤ℤ◌}
 use lib.Ieee.{binary64, div}
 use mir.Facts.{to_z-of_z}
-use borrow.Author.Rules.{rules}
 use Rattle.whole.proofs.PlusMinus.{abs_is, one_is_zero}
 use Rattle.whole.proofs.Rules.{ints}
 use Rattle.whole.proofs.Machine.{back, Runs, runs, need! }
@@ -19,7 +18,6 @@ use Rattle.app_feed.specs.Gauge.{used, gauge_of}
 use Rattle.app_feed.specs.declared.gauge.Gauge.TheVariants.{Over, Used}
 use Rattle.app_feed.proofs.Exact.{fits_small, cast}
 use Rattle.app_feed.proofs.gauge.gauge_of.Goals as goal
-use Rattle.app_feed.proofs.gauge.gauge_of.Goals.{After-struct_told-4-1, Else-valuation-le0, Start}
 
 -- the shortfall and the sums, as the code works them out
 module _ (f : Figures) (below : Below2^53 f) where
@@ -64,11 +62,6 @@ share-small u v l low e h s = omega (ints, s, abs_is u, abs_is v, one_is_zero u,
 tested : (test : ℤ → Bool) (z : ℤ) {b : Bool} → nat_abs z < 2 ^ 53 → test (back z) ≡ b → test z ≡ b
 tested test z h e = sym (ap test (to_z-of_z (fits_small z h))) ∙ e
 
--- past the first test the valuation is above zero
-not-empty : (c : Else-valuation-le0) → le_z c.args.f.valuation (pos 0) ≡ false
-not-empty c =
-    tested (λ z. le_z z (pos 0)) c.args.f.valuation c.requires.0.valuation_below c.if-valuation-le0.false
-
 pub returns-then-valuation-le0 : goal.returns-then-valuation-le0
 unfolding gauge_of
 returns-then-valuation-le0 c =
@@ -88,8 +81,9 @@ returns-then-limit-lt0 c =
     let below = c.requires.0 in
     let e : c.exact.result ≡ float (neg_ℤ f.limit) =
     c.exact.ensures ∙ ap float (runs (shortfall f below) (shortfall-runs f below) ∙ +ℤ_idl (neg_ℤ f.limit)) in
+    let not-empty = tested (λ z. le_z z (pos 0)) f.valuation below.valuation_below c.if-valuation-le0.false in
     let over = tested (λ z. lt_z z (pos 0)) f.limit below.limit_below c.if-limit-lt0.true in
-    rw (not-empty c.before.before, over)
+    rw (not-empty, over)
     (ap Over e)
 
 pub overflow_add-used : goal.overflow_add-used
@@ -99,30 +93,22 @@ pub overflow_sub-used : goal.overflow_sub-used
 overflow_sub-used c =
     need! (risks c.args.f c.requires.0 ⊖ var c.args.f.discount) (used_runs c.args.f c.requires.0)
 
--- where neither test holds
-module _ (c : After-struct_told-4-1) where
-  abbrev start : Start
-  start = c.before.before.before.before.before.before.before.before
-
-  abbrev f : Figures
-  f = start.args.f
-
-  not-over : lt_z f.limit (pos 0) ≡ false
-  not-over = tested (λ z. lt_z z (pos 0)) f.limit start.requires.0.limit_below c.if-limit-lt0.false
-
 pub exact-requires-2 : goal.exact-requires-2
 exact-requires-2 c =
-    let s = start c in
-    rw (runs (risks (f c) s.pre.0 ⊖ var (f c).discount) (used_runs (f c) s.pre.0))
-    (share-small (used (f c)) (f c).valuation (f c).limit s.pre.1.used_from_zero s.pre.1.limit_is (not-over c) s.pre.0.valuation_below)
+    let f = c.args.f in
+    let below = c.requires.0 in
+    let not-over = tested (λ z. lt_z z (pos 0)) f.limit below.limit_below c.if-limit-lt0.false in
+    rw (runs (risks f below ⊖ var f.discount) (used_runs f below))
+    (share-small (used f) f.valuation f.limit c.requires.1.used_from_zero c.requires.1.limit_is not-over below.valuation_below)
 
 pub returns : goal.returns
 unfolding gauge_of
 returns c =
-    let s = start c.before.before in
-    let f = s.args.f in
-    let below = s.pre.0 in
+    let f = c.args.f in
+    let below = c.requires.0 in
     let e : c.exact-2.result ≡ float (used f) = c.exact-2.ensures ∙ ap float (runs (risks f below ⊖ var f.discount) (used_runs f below)) in
     let v : c.exact-3.result ≡ float f.valuation = cast (fits_small f.valuation below.valuation_below) c.exact-3.ensures in
-    rw (not-empty c.before.before.before.before.before.before.before, not-over c.before.before)
+    let not-empty = tested (λ z. le_z z (pos 0)) f.valuation below.valuation_below c.if-valuation-le0.false in
+    let not-over = tested (λ z. lt_z z (pos 0)) f.limit below.limit_below c.if-limit-lt0.false in
+    rw (not-empty, not-over)
     (λ i. Used (div binary64 (e i) (v i)))

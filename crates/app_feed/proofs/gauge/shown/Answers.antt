@@ -1,5 +1,4 @@
 -- `gauge::shown` meets its contract: what the variant carries, and the float of zero where it carries nothing. Assumes nothing.
-use borrow.Author.Rules.{rules}
 use Rattle.app_feed.proofs.gauge.shown.Goals as goal
 
 -- there the gauge is the empty one

@@ -1,13 +1,9 @@
 -- `reading::all_patterns` meets its contract. The loop's invariant: the answer is that for the numbers from k on. Assumes nothing.
-use mathlib.Core.Path.{◌≡◌, refl, sym, ◌∙◌}
+use mathlib.Core.Path.{◌≡◌}
 use mathlib.Core.List.{map}
 use Prim.Native.Nat.{◌-◌, ◌≤◌}
-use native.Mathlib.Omega.{arith}
 use lib.ListN.{length, drop}
-use borrow.Author.Rules.{rules}
 use Rattle.whole.specs.Marks.{all_true}
-use Rattle.whole.proofs.Tests.{left, taken}
-use Rattle.whole.proofs.Lists.{all_next, all_out, all_end}
 use Rattle.app_feed.specs.Received.{is_pattern}
 use Rattle.app_feed.proofs.reading.all_patterns.Given as goal
 

@@ -1,5 +1,4 @@
 -- `reading::refused` meets its contract: the code, and the five zeros. Assumes nothing.
-use borrow.Author.Rules.{rules}
 use Rattle.app_feed.proofs.reading.refused.Goals as goal
 
 pub returns : goal.returns

@@ -1,5 +1,4 @@
 -- `calls::open` meets its contract: a byte is its number. Assumes nothing.
-use borrow.Author.Rules.{rules}
 use Rattle.session_lines.proofs.calls.Bytes.{byte_is}
 use Rattle.session_lines.proofs.calls.open.Goals as goal
 

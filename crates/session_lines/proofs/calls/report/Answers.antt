@@ -1,5 +1,4 @@
 -- `calls::report` meets its contract: a byte is its number, and the parameters are lent as their three parts. Assumes nothing.
-use borrow.Author.Rules.{rules}
 use Rattle.whole.specs.Parts.{part}
 use Rattle.session_lines.proofs.calls.Bytes.{byte_is}
 use Rattle.session_lines.proofs.calls.report.Goals as goal

@@ -20,5 +20,4 @@ returns c = let f = fits c in λ i. record {
   side = byte_is f.2 i;
   quantity = to_z-of_z f.3 i;
   money = to_z-of_z f.4 i;
-
 }

@@ -1,7 +1,6 @@
 -- `stream::end` meets its contract: a line of no bytes stays, and any other ends as a newline ends it. Assumes nothing.
 use mathlib.Core.Path.{refl, sym, ◌∙◌}
 use native.Mathlib.Omega.{arith}
-use borrow.Author.Rules.{rules}
 use Rattle.session_lines.specs.Stream.{ended}
 use Rattle.session_lines.proofs.stream.end.Goals as goal
 

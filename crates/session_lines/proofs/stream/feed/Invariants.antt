@@ -1,16 +1,9 @@
 -- `stream::feed` meets its contract: what is left of the piece, fed to what memory holds, ends as the whole piece does. Assumes nothing.
-use mathlib.Core.Path.{◌≡◌, refl, sym, ap, ◌∙◌}
-use mathlib.Core.List.{List, []}
+use mathlib.Core.Path.{◌≡◌}
+use mathlib.Core.List.{List}
 use Prim.Native.Nat.{ℕ, ◌+◌, ◌-◌, ◌≤◌}
-use native.Mathlib.Omega.{arith}
 use lib.ListN.{length, drop}
-use borrow.Author.Rules.{rules}
-use Rattle.frames.specs.Answer.{Written, written}
-use Rattle.frames.specs.declared.frame.Frame.{Frame}
-use Rattle.session_lines.specs.Session.{Memory, answered}
-use Rattle.session_lines.specs.Stream.{longest_line, begun, held, frame_held, Stream, Fed, closed, fed, empty, Took}
-use Rattle.session_lines.proofs.stream.Steps.{byte_taken, line_taken, line_waits, piece_ends, some_used}
-use Rattle.session_lines.proofs.Answers.{written-inside}
+use Rattle.session_lines.specs.Stream.{longest_line, Stream, Fed, fed, empty}
 use Rattle.session_lines.proofs.Through.{stream_in}
 use Rattle.session_lines.proofs.stream.feed.Given as goal
 

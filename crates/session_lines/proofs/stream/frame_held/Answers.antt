@@ -4,7 +4,6 @@ use native.Mathlib.Omega.{arith}
 use lib.ListN.{length-take}
 use borrow.Author.Tests.{le-leb, lt-leb}
 use Rattle.session_lines.specs.Stream.{longest_line, held, frame_held}
-use borrow.Author.Rules.{rules}
 use Rattle.session_lines.proofs.stream.frame_held.Goals as goal
 
 pub returns-then-count-gt-LONGEST_LINE : goal.returns-then-count-gt-LONGEST_LINE

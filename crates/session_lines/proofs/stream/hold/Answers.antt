@@ -1,7 +1,6 @@
 -- `stream::hold` meets its contract: a line grows to the longest line and no further. Assumes nothing.
 use native.Mathlib.Omega.{arith}
 use Rattle.session_lines.proofs.stream.Held.{held_more, held_full}
-use borrow.Author.Rules.{rules}
 use Rattle.session_lines.proofs.stream.hold.Goals as goal
 
 pub returns-then-count-lt-LONGEST_LINE : goal.returns-then-count-lt-LONGEST_LINE
