@@ -15,7 +15,8 @@ use rates::units::{DATE_COUNT, WHOLE};
 // The base rate for n units up to the limit, the raised rate for those above it. Rates below 0 are those of a short date's widths.
 fn charge_of(base: i64, raised: i64, limit: i64, n: i64) -> i64
     requires { (base within 10000000) × (raised within 10000000) × (limit upto 10000000) × (n upto 64000000) }
-    ensures { (result ≡ charge base raised limit n) × (result within 640000000000000) }
+    ensures value { (result ≡ charge base raised limit n) × (result within 640000000000000) }
+    ensures not_below { base upto 10000000 → raised upto 10000000 → result upto 640000000000000 }
 {
     let within = whole::lesser(n, limit);
     base * within + raised * (n - within)
@@ -100,7 +101,8 @@ pub(crate) fn market_risk(row: &[i64], x: Asset, sum: i64) -> i64
 // How far number i stands above number j, below 0 where it stands lower.
 fn width(row: &[i64], i: usize, j: usize) -> i64
     requires { (i < length row.now) × (j < length row.now) × ((number row.now i -ℤ number row.now j) within 10000000) }
-    ensures { (result ≡ number row.now i -ℤ number row.now j) × (result within 10000000) }
+    ensures value { (result ≡ number row.now i -ℤ number row.now j) × (result within 10000000) }
+    ensures not_below { (number row.now i -ℤ number row.now j) upto 10000000 → result upto 10000000 }
 {
     row[i] - row[j]
 }

@@ -2,7 +2,7 @@
 -- cover test of an asset.
 -- Assumes nothing.
 use Rattle.std.specs.Prelude.{cond, ◌&&◌, List, ℕ, eqb, ℤ, nat_abs, length, Float}
-use Rattle.std.specs.Borrow.{Bor}
+use Rattle.std.specs.Borrow.{MutBor}
 use denote.Triple.Both.{Both}
 use Rattle.whole.specs.Refusals.{wrong_length}
 use Rattle.rates.specs.Lent.{Tables}
@@ -26,7 +26,7 @@ pub record Filled (A : Type 0) : Type 0 where
   pub figures : List A
 
 -- as a contract names what was answered and written
-abbrev pub filled : {A : Type 0} → ℕ → Both (Bor (List A)) (Bor (List A)) → Filled A
+abbrev pub filled : {A : Type 0} → ℕ → Both (MutBor (List A)) (MutBor (List A)) → Filled A
 filled code figures = record { code = code; figures = figures.exit.now }
 
 unfoldable pub fills : {A : Type 0} → ℕ → List A → List A → Filled A
@@ -53,7 +53,7 @@ pub record Screen : Type 0 where
   pub shown : Float
 
 -- as a contract names it
-abbrev pub screen : ℕ → LentBits → Both (Bor ℕ) (Bor ℕ) → Both (Bor Float) (Bor Float) → Screen
+abbrev pub screen : ℕ → LentBits → Both (MutBor ℕ) (MutBor ℕ) → Both (MutBor Float) (MutBor Float) → Screen
 screen code bits gauge shown = record { code = code; bits = bits.exit.now; gauge = gauge.exit.now; shown = shown.exit.now }
 
 unfoldable pub screen_of : Tables → ℕ → State → List ℕ → Screen

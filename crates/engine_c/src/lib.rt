@@ -1,7 +1,9 @@
+#![tactic(auto)]
+
 ghost use Rattle.std.specs.Prelude.{◌≡◌};
 ghost use Rattle.rates.specs.Lent.{given};
 ghost use Rattle.rates.specs.Tables.{check_code, check_place};
-ghost use Rattle.engine.specs.State.{found};
+ghost use Rattle.engine.specs.State.{state, found};
 ghost use Rattle.engine.specs.Refused.{place_of};
 ghost use Rattle.engine.specs.Calls.{answer, outcome_of, opening, moving, ordering, rolling};
 ghost use Rattle.engine_c.specs.Face.{terms, filled, filled_report, filled_floats, covered, screen, screen_of};

@@ -78,7 +78,7 @@ pub record Facts : Type 0 where
   pub still_good : good_block (block_at deposited 0) ≡ true
   pub richer_good : good_block (block_at (state_in S2) 0) ≡ true
   pub lost_listed : listed lost_whole.clearing 0 ≡ true
-  pub lost_sales : covered_sales (in_force lost_whole.clearing lost_whole.own_val 0) ≡ pos 0
+  pub lost_sales : covered_sales (in_force lost_whole.clearing lost_whole.own 0) ≡ pos 0
   pub partly_covers : cover_test (in_force partly.clearing partly.own 0) ≡ true
   pub covers : cover_test (in_force (tables_in S1).clearing (tables_in S1).own 0) ≡ true
   pub sales : covered_sales (in_force (tables_in S1).clearing (tables_in S1).own 0) ≡ pos 0

@@ -9,9 +9,9 @@ use Prim.Native.Nat.{ℕ, ◌<◌}
 use native.Mathlib.Omega.{arith}
 use lib.IntN.{ℤ, pos}
 use lib.ListN.{length, replicate}
-use borrow.Author.Tests.{lt-ltb, not-true, not-false}
+use borrow.Author.Tests.{lt-ltb, not-true}
 use Rattle.whole.specs.Bounds.{between, equal, is_zero}
-use Rattle.whole.specs.Marks.{all_true, all_zero, pieces}
+use Rattle.whole.specs.Marks.{all_true, pieces}
 use Rattle.whole.proofs.Bounds.{equal_says, upto_by}
 use Rattle.whole.proofs.Tests.{and_left, and_right, true_not_false}
 use Rattle.whole.proofs.Marks.{all_left, all_right, all_piece, all_numbers}
@@ -26,7 +26,7 @@ use Rattle.rates.proofs.Counts.{row_long, long_clearing, long_own, long_groups}
 use Rattle.rates.proofs.Answer.{code_0_says}
 use Rattle.rates.proofs.Ranges.{row_ranges}
 use Rattle.rates.proofs.Lookup.{of_either}
-use Rattle.rates.proofs.Zeros.{absent_unlisted, unlisted_zero}
+use Rattle.rates.proofs.Zeros.{absent_unlisted}
 
 -- ---- an own row whose marks are true
 module _ (own clearing : List ℤ) (e : all_true (own_row_marks own clearing) ≡ true) where

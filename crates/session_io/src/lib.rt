@@ -1,3 +1,5 @@
+#![tactic(auto)]
+
 // Standard input answered on standard output, in large pieces. Memory is what `run` holds from its start: the book, the parameters, the line that has
 // begun, and a buffer each way.
 ghost use Rattle.std.specs.Prelude.{◌≤◌, length, ◌≡◌, false};
@@ -5,8 +7,20 @@ ghost use Rattle.session_lines.specs.Stream.{longest_answer, WentThrough};
 
 use book::in_block::BOOK_LENGTH;
 use session_lines::sizes::{LONGEST_LINE, PARAMETERS};
+use std::io::{Stderr, Stdin, Stdout};
 
 mod waiting;
+
+// The streams of the process.
+#[derive(Clone, Copy)]
+pub struct Streams {
+    pub input: Stdin,
+    pub output: Stdout,
+    pub errors: Stderr,
+}
+
+// The bytes of a buffer each way: a session would spend its time on calls with a small one.
+const BUFFER: usize = 65536;
 
 // How a piece left the session: the bytes held of the line that has begun, whether there may be more to read, and whether a read or a write failed.
 #[derive(Clone, Copy)]
@@ -19,6 +33,7 @@ struct Left {
 // Answers a piece, every byte of it once and in order, and writes as often as the buffer is full. A write that fails ends the session: what was
 // written before stays.
 fn answer_piece(
+    streams: Streams,
     book: &mut [i64; BOOK_LENGTH],
     parameters: &mut [i64; PARAMETERS],
     line: &mut [u8; LONGEST_LINE],
@@ -34,7 +49,7 @@ fn answer_piece(
     while from < piece.len() {
         let spot = session_lines::feed(book, parameters, line, held, &piece[from..], out);
         let n = spot.at;
-        if !waiting::write_all(&out[..n]) {
+        if !waiting::write_all(streams.output, streams.errors, &out[..n]) {
             return Left {
                 count: 0,
                 more: false,
@@ -53,6 +68,7 @@ fn answer_piece(
 
 // One read, answered. A read of nothing is the end of the input.
 fn turn(
+    streams: Streams,
     book: &mut [i64; BOOK_LENGTH],
     parameters: &mut [i64; PARAMETERS],
     line: &mut [u8; LONGEST_LINE],
@@ -62,7 +78,7 @@ fn turn(
 ) -> Left
     requires { longest_answer ≤ length out.old }
 {
-    let got = waiting::read_some(buf);
+    let got = waiting::read_some(streams.input, streams.errors, buf);
     let n = got.count;
     if n == 0 {
         return Left {
@@ -71,11 +87,12 @@ fn turn(
             failed: got.failed,
         };
     }
-    answer_piece(book, parameters, line, count, &buf[..n], out)
+    answer_piece(streams, book, parameters, line, count, &buf[..n], out)
 }
 
 // Reads to the end of the input, and holds a last line without its newline. The count of turns falls to 0, so the loop ends; no run uses it up.
 fn read_all(
+    streams: Streams,
     book: &mut [i64; BOOK_LENGTH],
     parameters: &mut [i64; PARAMETERS],
     line: &mut [u8; LONGEST_LINE],
@@ -87,7 +104,7 @@ fn read_all(
     let mut count = 0;
     let mut turns = u64::MAX;
     while turns > 0 {
-        let left = turn(book, parameters, line, count, buf, out);
+        let left = turn(streams, book, parameters, line, count, buf, out);
         count = left.count;
         if !left.more {
             return left;
@@ -104,6 +121,7 @@ fn read_all(
 // Reads and answers all, then a last line without its newline; whether nothing failed. Where a read failed the line that had begun is not answered: what
 // it would have been is not known.
 fn serve(
+    streams: Streams,
     book: &mut [i64; BOOK_LENGTH],
     parameters: &mut [i64; PARAMETERS],
     line: &mut [u8; LONGEST_LINE],
@@ -112,21 +130,28 @@ fn serve(
 ) -> bool
     requires { longest_answer ≤ length out.old }
 {
-    let left = read_all(book, parameters, line, buf, out);
+    let left = read_all(streams, book, parameters, line, buf, out);
     if left.failed {
         return false;
     }
     let spot = session_lines::end(book, parameters, line, left.count, out);
     let n = spot.at;
-    waiting::write_all(&out[..n])
+    waiting::write_all(streams.output, streams.errors, &out[..n])
 }
 
 // A whole session: an empty book, all-zero tables, and every line of standard input answered; whether all of it was read and every answer written.
-pub fn run() -> bool {
+pub fn run(streams: Streams) -> bool {
     let mut book = [0i64; BOOK_LENGTH];
     let mut parameters = [0i64; PARAMETERS];
     let mut line = [0u8; LONGEST_LINE];
-    let mut buf = io::large_buffer();
-    let mut out = io::large_buffer();
-    serve(&mut book, &mut parameters, &mut line, &mut buf, &mut out)
+    let mut buf = [0u8; BUFFER];
+    let mut out = [0u8; BUFFER];
+    serve(
+        streams,
+        &mut book,
+        &mut parameters,
+        &mut line,
+        &mut buf,
+        &mut out,
+    )
 }

@@ -1,8 +1,9 @@
 // Reads and writes that wait: a call that a signal interrupted, or that would have to wait on a descriptor that does not, is made again. What fails for
 // another reason is said on standard error, once, and ends the session. The counts of turns fall to 0, so the loops end; no run uses them up.
-ghost use Rattle.io.specs.Counts.{IsPrefixLen};
+ghost use Rattle.std.specs.Prelude.{◌≡◌, ◌≤◌, length, take};
 
-use libc::{EAGAIN, EINTR, STDIN_FILENO, STDOUT_FILENO};
+use std::io::{Error, ErrorKind, Read, Stderr, Stdin, Stdout, Write};
+use std::thread;
 
 // What one read gave: bytes at the start of the buffer, none at the end of the input.
 #[derive(Clone, Copy)]
@@ -11,33 +12,41 @@ pub(crate) struct Got {
     pub failed: bool,
 }
 
-// Whether the call that has just failed is worth making again: where it would have had to wait, others go first.
-fn again() -> bool {
-    let error = os::errno();
-    if error == EAGAIN {
-        libc::sched_yield();
+// Whether the call that failed so is worth making again: where it would have had to wait, others go first.
+fn again(error: &Error) -> bool {
+    let kind = error.kind();
+    if kind == ErrorKind::WouldBlock {
+        thread::yield_now();
         return true;
     }
-    error == EINTR
+    kind == ErrorKind::Interrupted
+}
+
+// Says what failed and why. Where that cannot be written either, nothing is left to say it on.
+fn say(errors: Stderr, what: &str, error: &Error) {
+    let _ = eprintln!(errors; "session: {what}: {error}");
 }
 
 // Reads some of standard input.
-pub(crate) fn read_some(buf: &mut [u8]) -> Got
-    ensures { IsPrefixLen result.count buf.new }
+pub(crate) fn read_some(mut input: Stdin, errors: Stderr, buf: &mut [u8]) -> Got
+    ensures bound { result.count ≤ length buf.new }
+    ensures taken { result.count ≡ length (take result.count buf.new) }
 {
     let mut turns = u64::MAX;
     while turns > 0 {
-        let got = libc::read(STDIN_FILENO, buf);
-        if got >= 0 {
-            let count = io::count(got, buf);
-            return Got {
-                count,
-                failed: false,
-            };
-        }
-        if !again() {
-            os::fail(b"session: standard input");
-            break;
+        match input.read(buf) {
+            Ok(count) => {
+                return Got {
+                    count,
+                    failed: false,
+                };
+            }
+            Err(error) => {
+                if !again(&error) {
+                    say(errors, "standard input", &error);
+                    break;
+                }
+            }
         }
         turns -= 1;
     }
@@ -48,7 +57,7 @@ pub(crate) fn read_some(buf: &mut [u8]) -> Got
 }
 
 // Writes all of the bytes to standard output, by as many writes as it takes; whether it could.
-pub(crate) fn write_all(bytes: &[u8]) -> bool {
+pub(crate) fn write_all(mut output: Stdout, errors: Stderr, bytes: &[u8]) -> bool {
     let mut from = 0;
     let mut turns = u64::MAX;
     while from < bytes.len() {
@@ -56,14 +65,17 @@ pub(crate) fn write_all(bytes: &[u8]) -> bool {
             return false;
         }
         turns -= 1;
-        let rest = &bytes[from..];
-        let put = io::count(libc::write(STDOUT_FILENO, rest), rest);
-        from += put;
-        if put == 0 {
-            if !again() {
-                os::fail(b"session: standard output");
-                return false;
+        let error = match output.write(&bytes[from..]) {
+            Ok(0) => Error::from(ErrorKind::WriteZero),
+            Ok(put) => {
+                from += put;
+                continue;
             }
+            Err(error) => error,
+        };
+        if !again(&error) {
+            say(errors, "standard output", &error);
+            return false;
         }
     }
     true

@@ -4,11 +4,11 @@ use Rattle.std.specs.Prelude.{cond, List, [], ◌∷◌, ◌++◌, ℕ, ◌+◌,
 use Rattle.whole.specs.Parts.{part}
 use Rattle.whole.specs.Refusals.{leaves, wrong_choice, malformed}
 use Rattle.rates.specs.Units.{table_length, group_count}
-use Rattle.rates.specs.Lent.{Lent, Tables}
+use Rattle.rates.specs.Lent.{Tables}
 use Rattle.book.specs.Block.{book_length}
 use Rattle.book.specs.declared.terms.Terms.{Terms}
 use Rattle.figures.specs.Limit.{five}
-use Rattle.engine.specs.State.{State, found, left}
+use Rattle.engine.specs.State.{State, Changed, found, left}
 use Rattle.engine.specs.Refused.{place_of}
 use Rattle.engine.specs.Calls.{Call, outcome_of, opening, moving, ordering, rolling}
 use Rattle.engine.specs.Report.{report_of}
@@ -41,10 +41,10 @@ tables_of parameters = record {
 }
 
 -- as an `ensures` names it
-abbrev pub memory_found : Lent → Lent → Memory
+abbrev pub memory_found : Changed → Changed → Memory
 memory_found book parameters = record { state = found book; parameters = parameters.entry.now }
 
-abbrev pub memory_left : Lent → Lent → Memory
+abbrev pub memory_left : Changed → Changed → Memory
 memory_left book parameters = record { state = left book; parameters = parameters.exit.now }
 
 -- ---- what a line is answered, and what it leaves

@@ -2,9 +2,9 @@
 -- bytes that a frame can have are kept; of a longer one, that it is too long.
 -- Assumes nothing.
 use Rattle.std.specs.Prelude.{◌≡◌, Bool, false, cond, List, [], ◌∷◌, ◌++◌, ℕ, ◌+◌, ◌≤◌, ◌<◌, eqb, leb, ltb, length, take}
-use Rattle.std.specs.Borrow.{Bor}
+use Rattle.std.specs.Borrow.{MutBor}
 use denote.Triple.Both.{Both}
-use Rattle.rates.specs.Lent.{Lent}
+use Rattle.engine.specs.State.{Changed}
 use Rattle.frames.specs.Frame.{line_frame}
 use Rattle.frames.specs.Answer.{Written, written, written_to}
 use Rattle.frames.specs.declared.frame.Frame.{Frame}
@@ -90,21 +90,21 @@ ended f = cond (is_blank f.stream.line) f (fed f (newline ∷ []))
 
 -- ---- as an `ensures` names them: what a call found, with a buffer in which nothing is written, and what it left
 abbrev pub LentBytes : Type 0
-LentBytes = Both (Bor (List ℕ)) (Bor (List ℕ))
+LentBytes = Both (MutBor (List ℕ)) (MutBor (List ℕ))
 
 abbrev pub empty : Stream → List ℕ → Fed
 empty s out = record { used = 0; stream = s; out = record { bytes = out; at = 0 } }
 
-abbrev pub stream_found : Lent → Lent → LentBytes → ℕ → Stream
+abbrev pub stream_found : Changed → Changed → LentBytes → ℕ → Stream
 stream_found book parameters line count = record { line = held line.entry.now count; memory = memory_found book parameters }
 
-abbrev pub stream_left : Lent → Lent → LentBytes → ℕ → Stream
+abbrev pub stream_left : Changed → Changed → LentBytes → ℕ → Stream
 stream_left book parameters line count = record { line = held line.exit.now count; memory = memory_left book parameters }
 
-abbrev pub fed_found : Lent → Lent → LentBytes → ℕ → LentBytes → Fed
+abbrev pub fed_found : Changed → Changed → LentBytes → ℕ → LentBytes → Fed
 fed_found book parameters line count out = empty (stream_found book parameters line count) out.entry.now
 
-abbrev pub fed_left : Spot → Lent → Lent → LentBytes → LentBytes → Fed
+abbrev pub fed_left : Spot → Changed → Changed → LentBytes → LentBytes → Fed
 fed_left r book parameters line out = record {
   used = r.used;
   stream = stream_left book parameters line r.count;
@@ -112,7 +112,7 @@ fed_left r book parameters line out = record {
 }
 
 -- every byte of a piece, from a line of which `count` bytes were held to one of which `after` are
-abbrev pub WentThrough : Lent → Lent → LentBytes → ℕ → ℕ → List ℕ → Type 0
+abbrev pub WentThrough : Changed → Changed → LentBytes → ℕ → ℕ → List ℕ → Type 0
 WentThrough book parameters line count after piece = stream_left book parameters line after ≡ through (stream_found book parameters line count) piece
 
 -- what follows for a caller: no more than the piece and the buffer; where the buffer has room for an answer, some of a piece that has any byte; and

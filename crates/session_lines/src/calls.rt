@@ -1,5 +1,5 @@
 ghost use Rattle.std.specs.Prelude.{◌≡◌, pos, length};
-ghost use Rattle.engine.specs.State.{found};
+ghost use Rattle.engine.specs.State.{state, found};
 ghost use Rattle.engine.specs.Calls.{answer, outcome_of, opening, rolling};
 ghost use Rattle.engine.specs.Report.{report_of};
 ghost use Rattle.session_lines.specs.Session.{parameter_count, tables_of, place_code, parameter_set, account_at, line_move, terms_of, line_order};

@@ -1,3 +1,5 @@
+#![tactic(auto)]
+
 mod answer;
 mod calls;
 pub mod sizes;

@@ -2,7 +2,6 @@
 use mathlib.Core.Path.{sym, ap, ◌∙◌}
 use mathlib.Core.List.{List}
 use lib.IntN.{ℤ}
-use borrow.Author.Rules.{rules}
 use Rattle.whole.proofs.Tests.{passed}
 use Rattle.book.specs.Rules.{holds_listed}
 use Rattle.settlement.proofs.Alone.{no_code_unshared, alone_holds_listed}

@@ -1,6 +1,5 @@
 -- `settlement::code_right` meets its contract: on no code the account's block decides, on one every block on it and their count. Assumes nothing.
 use mathlib.Core.Path.{sym, ap, ◌∙◌}
-use borrow.Author.Rules.{rules}
 use Rattle.whole.proofs.Tests.{passed}
 use Rattle.book.specs.Rules.{good_block}
 use Rattle.settlement.proofs.Alone.{no_code_unshared, alone_right}

@@ -3,7 +3,6 @@ use mathlib.Core.Path.{sym, ap, ap₂, ◌∙◌}
 use mathlib.Core.Bool.{◌&&◌}
 use mathlib.Core.List.{List}
 use lib.IntN.{ℤ}
-use borrow.Author.Rules.{rules}
 use Rattle.whole.proofs.Tests.{passed}
 use Rattle.book.specs.Rules.{good_block, holds_listed}
 use Rattle.settlement.proofs.Alone.{no_code_unshared, alone_right, alone_holds_listed}

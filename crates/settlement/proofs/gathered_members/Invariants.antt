@@ -1,19 +1,12 @@
 -- `settlement::gathered_members` meets its contract. The loop's invariant: count and places are those of the accounts before j that are on the code.
 -- Assumes nothing.
-use mathlib.Core.Path.{◌≡◌, sym, ap, ◌∙◌}
-use mathlib.Core.Bool.{Bool, true, cond}
-use mathlib.Core.List.{List, [], ◌∷◌}
-use Prim.Native.Nat.{ℕ, ◌-◌, ◌≤◌, ◌<◌}
-use native.Mathlib.Omega.{arith}
-use borrow.Author.Rules.{rules}
-use Rattle.whole.proofs.Tests.{left, taken}
+use mathlib.Core.Path.{◌≡◌}
+use mathlib.Core.List.{List}
+use Prim.Native.Nat.{ℕ, ◌-◌, ◌≤◌}
 use Rattle.book.specs.Members.{kind_at}
 use Rattle.book.specs.declared.members.Members.{Members}
 use Rattle.settlement.specs.Code.{on_code}
-use Rattle.settlement.specs.Members.{joined, list_of}
-use Rattle.settlement.proofs.Codes.{room_before}
-use Rattle.settlement.proofs.Right.{own_in_range}
-use Rattle.settlement.proofs.Listing.{list_count, list_turn}
+use Rattle.settlement.specs.Members.{list_of}
 use Rattle.settlement.proofs.gathered_members.Given as goal
 
 -- the list that has been made

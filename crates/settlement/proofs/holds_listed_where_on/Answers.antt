@@ -2,7 +2,6 @@
 use mathlib.Core.Path.{ap, ◌∙◌}
 use mathlib.Core.List.{List}
 use lib.IntN.{ℤ}
-use borrow.Author.Rules.{rules}
 use Rattle.whole.proofs.Tests.{left, taken, where_so, where_not}
 use Rattle.book.specs.Rules.{holds_listed}
 use Rattle.settlement.proofs.holds_listed_where_on.Goals as goal

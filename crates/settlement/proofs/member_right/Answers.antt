@@ -1,6 +1,5 @@
 -- `settlement::member_right` meets its contract: the block lent is account j's. Assumes nothing.
 use mathlib.Core.Path.{sym, ap, ◌∙◌}
-use borrow.Author.Rules.{rules}
 use Rattle.whole.proofs.Tests.{left, taken, first_out, and_then}
 use Rattle.book.specs.Rules.{good_block}
 use Rattle.settlement.specs.Code.{member_right}

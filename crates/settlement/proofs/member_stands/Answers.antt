@@ -3,7 +3,6 @@ use mathlib.Core.Path.{sym, ap, ◌∙◌}
 use mathlib.Core.Bool.{Bool, ◌&&◌}
 use mathlib.Core.List.{List}
 use lib.IntN.{ℤ}
-use borrow.Author.Rules.{rules}
 use Rattle.whole.proofs.Tests.{left, taken, first_out, and_then}
 use Rattle.book.specs.Rules.{good_block, holds_listed}
 use Rattle.settlement.proofs.Right.{member_and_listed}

@@ -1,17 +1,9 @@
 -- `settlement::members_hold_listed` meets its contract. The loop's invariant: every account before j that is on the code passed. Assumes nothing.
-use mathlib.Core.Path.{◌≡◌, sym}
-use mathlib.Core.Bool.{Bool, true}
-use mathlib.Core.List.{List}
-use Prim.Native.Nat.{ℕ, ◌-◌, ◌≤◌}
+use mathlib.Core.Path.{sym}
 use native.Mathlib.Omega.{arith}
-use lib.IntN.{ℤ}
-use borrow.Author.Rules.{rules}
-use Rattle.whole.specs.Marks.{every}
 use Rattle.whole.proofs.Every.{every_none, every_out, every_next, every_done}
 use Rattle.whole.proofs.Tests.{left, taken}
-use Rattle.book.specs.Block.{block_of}
-use Rattle.book.specs.Rules.{holds_listed}
-use Rattle.settlement.specs.Code.{on_code, where_on, every_on, code_holds_listed}
+use Rattle.settlement.specs.Code.{every_on, code_holds_listed}
 use Rattle.settlement.proofs.members_hold_listed.Invariants.{asked}
 use Rattle.settlement.proofs.members_hold_listed.Goals as goal
 

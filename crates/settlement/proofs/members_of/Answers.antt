@@ -1,6 +1,5 @@
 -- `settlement::members_of` meets its contract: an account on no code is its own list. Assumes nothing.
 use mathlib.Core.Path.{sym, ◌∙◌}
-use borrow.Author.Rules.{rules}
 use Rattle.whole.proofs.Tests.{passed}
 use Rattle.settlement.proofs.Right.{own_in_range}
 use Rattle.settlement.proofs.Alone.{no_code_unshared, alone_in_list}

@@ -1,11 +1,8 @@
 -- `settlement::members_right` meets its contract. The loop's invariant: every account before j that is on the code is right, and they are counted.
 -- Assumes nothing.
 use Prim.Native.Nat.{◌-◌}
-use native.Mathlib.Omega.{arith}
-use borrow.Author.Rules.{rules}
-use Rattle.whole.proofs.Tests.{left, taken}
-use Rattle.settlement.specs.Code.{on_code, member_right, code_right}
-use Rattle.settlement.proofs.Codes.{Looked, none_looked, off_looked, on_looked, out_looked, all_looked}
+use Rattle.settlement.specs.Code.{on_code, member_right}
+use Rattle.settlement.proofs.Codes.{Looked}
 use Rattle.settlement.proofs.members_right.Given as goal
 
 abbrev pub invariant-loop-j : goal.invariant-loop-j

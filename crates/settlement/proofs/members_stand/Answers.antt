@@ -1,15 +1,9 @@
 -- `settlement::members_stand` meets its contract. The loop's invariant: every account before j that is on the code is right and holds listed assets
 -- only, and they are counted. Assumes nothing.
 use mathlib.Core.Path.{◌∙◌}
-use mathlib.Core.Bool.{◌&&◌}
-use Prim.Native.Nat.{◌-◌}
 use native.Mathlib.Omega.{arith}
-use borrow.Author.Rules.{rules}
 use Rattle.whole.proofs.Tests.{left, taken}
-use Rattle.book.specs.Block.{block_of}
-use Rattle.book.specs.Rules.{holds_listed}
-use Rattle.settlement.specs.Code.{on_code, member_right}
-use Rattle.settlement.proofs.Codes.{Looked, none_looked, off_looked, on_looked, out_looked, all_looked}
+use Rattle.settlement.proofs.Codes.{none_looked, off_looked, on_looked, out_looked, all_looked}
 use Rattle.settlement.proofs.Right.{right_and_listed}
 use Rattle.settlement.proofs.members_stand.Goals as goal
 

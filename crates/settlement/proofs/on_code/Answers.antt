@@ -1,6 +1,6 @@
 -- `settlement::on_code` meets its contract: the account itself is on its code, any other by number 13 of the two blocks lent. Assumes nothing.
 use mathlib.Core.Path.{sym, ap, ◌∙◌}
-use borrow.Author.Rules.{rules, sfits_of}
+use borrow.Author.Rules.{sfits_of}
 use mir.Syntax.{w64}
 use mir.Facts.{to_z-of_z}
 use Rattle.whole.specs.Bounds.{between}

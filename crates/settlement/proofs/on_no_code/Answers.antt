@@ -2,7 +2,6 @@
 use mathlib.Core.Path.{ap, ◌∙◌}
 use mathlib.Core.List.{List}
 use lib.IntN.{ℤ}
-use borrow.Author.Rules.{rules}
 use Rattle.whole.specs.Bounds.{is_zero}
 use Rattle.book.specs.Block.{settlement_code}
 use Rattle.settlement.proofs.on_no_code.Goals as goal

@@ -1,6 +1,6 @@
 -- `settlement::same_kind` meets its contract: the two blocks lent are those of accounts j and i. Assumes nothing.
 use mathlib.Core.Path.{ap, ◌∙◌}
-use borrow.Author.Rules.{rules, sfits_of}
+use borrow.Author.Rules.{sfits_of}
 use mir.Syntax.{w64}
 use mir.Facts.{to_z-of_z}
 use Rattle.whole.specs.Bounds.{between}

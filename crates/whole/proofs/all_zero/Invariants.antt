@@ -1,14 +1,10 @@
 -- `whole::all_zero` meets its contract: what was seen of the numbers before k, and those from k on, is all of them. Assumes nothing.
-use mathlib.Core.Path.{◌≡◌, refl, sym, ap, ◌∙◌}
-use mathlib.Core.Bool.{Bool, ◌&&◌}
+use mathlib.Core.Path.{◌≡◌}
+use mathlib.Core.Bool.{◌&&◌}
 use Prim.Native.Nat.{◌≤◌, ◌-◌}
-use native.Mathlib.Omega.{arith}
-use lib.IntN.{pos}
 use lib.ListN.{length, drop}
-use borrow.Author.Rules.{rules}
 use Rattle.whole.specs.Bounds.{is_zero}
-use Rattle.whole.specs.Marks.{all_zero}
-use Rattle.whole.proofs.Lists.{and-true, all, all_seen, all_end}
+use Rattle.whole.proofs.Lists.{all}
 use Rattle.whole.proofs.all_zero.Given as goal
 
 abbrev pub invariant-loop-k : goal.invariant-loop-k

@@ -1,19 +1,13 @@
 -- `whole::first_outside` meets its contract: what is left from number k on, with the k before it, is what there was. Assumes nothing.
-use mathlib.Core.Path.{◌≡◌, sym, ◌∙◌}
+use mathlib.Core.Path.{◌≡◌}
 use mathlib.Core.Bool.{Bool}
 use mathlib.Core.List.{map}
-use Prim.Native.Nat.{ℕ, ◌≤◌, ◌-◌}
-use native.Mathlib.Omega.{arith}
+use Prim.Native.Nat.{◌≤◌, ◌-◌}
 use lib.IntN.{ℤ, pos}
 use lib.ListN.{length}
-use mir.Syntax.{w64}
-use mir.Val.{to_z}
-use borrow.Author.Rules.{rules}
 use Rattle.whole.specs.Bounds.{between}
 use Rattle.whole.specs.Marks.{first_false}
-use Rattle.whole.proofs.Machine.{back, clean₂}
-use Rattle.whole.proofs.Tests.{left, taken}
-use Rattle.whole.proofs.Marks.{from_number, number_right, number_wrong, numbers_end}
+use Rattle.whole.proofs.Marks.{from_number}
 use Rattle.whole.proofs.first_outside.Given as goal
 
 abbrev pub inside : ℤ → ℤ → ℤ → Bool

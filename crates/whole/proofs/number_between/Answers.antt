@@ -1,6 +1,6 @@
 -- `whole::number_between` meets its contract: the number is read back as it stands. Assumes nothing.
 use mathlib.Core.Path.{◌∙◌}
-use borrow.Author.Rules.{rules, sfits_of}
+use borrow.Author.Rules.{sfits_of}
 use Rattle.whole.proofs.Bounds.{between_back}
 use Rattle.whole.proofs.number_between.Goals as goal
 

@@ -1,6 +1,5 @@
 -- `whole::number_is` meets its contract: to be x is to lie from x to x. Assumes nothing.
 use mathlib.Core.Path.{◌∙◌}
-use borrow.Author.Rules.{rules}
 use Rattle.whole.proofs.Bounds.{equal_back}
 use Rattle.whole.proofs.number_is.Goals as goal
 

@@ -2,7 +2,6 @@
 use mathlib.Core.Path.{◌≡◌, refl, ap, ◌∙◌, subst}
 use lib.IntN.{pos}
 use mir.Facts.{to_z-of_z}
-use borrow.Author.Rules.{rules}
 use Rattle.whole.specs.Numbers.{min_ℤ}
 use Rattle.whole.specs.Bounds.{◌upto◌}
 use Rattle.whole.proofs.Rules.{ints}

@@ -5,9 +5,8 @@ use native.Mathlib.Omega.{arith}
 use lib.IntN.{ℤ, pos}
 use lib.Signed.{◌≤ℤ◌}
 use mir.Facts.{to_z-of_z}
-use borrow.Author.Rules.{rules}
 use Rattle.whole.specs.Numbers.{min_ℤ, max_ℤ, divided_down}
-use Rattle.whole.specs.Bounds.{◌within◌, ◌upto◌}
+use Rattle.whole.specs.Bounds.{◌upto◌}
 use Rattle.whole.proofs.Expressions.{Expression, var, lit, ◌⊕◌, ◌⊖◌, ◌⊛◌, ◌⊓◌, ◌⊔◌, value, is, le! }
 use Rattle.whole.proofs.Machine.{Runs, need!, runs, clean₂}
 use Rattle.whole.proofs.InRange.{product_upto}

@@ -1,7 +1,6 @@
 -- `collateral::pool_share` meets its contract: one test, the definition's own. Assumes nothing.
 use mathlib.Core.Path.{refl}
 use mir.Facts.{to_z-of_z}
-use borrow.Author.Rules.{rules}
 use Rattle.assets.specs.Collateral.{pool_share_in_force}
 use Rattle.assets.proofs.collateral.pool_share.Goals as goal
 

@@ -3,7 +3,6 @@ use mathlib.Core.Path.{◌≡◌, refl, ap}
 use mathlib.Core.Bool.{false}
 use lib.IntN.{pos}
 use mir.Facts.{to_z-of_z}
-use borrow.Author.Rules.{rules}
 use Rattle.whole.specs.Bounds.{equal}
 use Rattle.whole.proofs.Tests.{passed, failed}
 use Rattle.rates.specs.Row.{covered_sales, special_delivery}

@@ -1,7 +1,6 @@
 -- `collateral::share_by_kind` meets its contract: the tests are the definition's, in its order. Assumes nothing.
 use mathlib.Core.Path.{refl}
 use mir.Facts.{to_z-of_z}
-use borrow.Author.Rules.{rules}
 use borrow.Author.Tests.{eq-eqb, ne_eqb}
 use Rattle.assets.specs.Collateral.{share_by_kind}
 use Rattle.assets.proofs.collateral.share_by_kind.Goals as goal

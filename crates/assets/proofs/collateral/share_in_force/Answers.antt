@@ -1,7 +1,6 @@
 -- `collateral::share_in_force` meets its contract, regime by regime. Assumes nothing.
 use mathlib.Core.Path.{refl, subst}
 use mir.Facts.{to_z-of_z}
-use borrow.Author.Rules.{rules}
 use Rattle.whole.proofs.InRange.{zero_upto}
 use Rattle.assets.specs.Ranges.{ShareRange}
 use Rattle.assets.proofs.collateral.share_in_force.Goals as goal

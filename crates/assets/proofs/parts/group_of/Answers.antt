@@ -2,7 +2,6 @@
 use mathlib.Core.Path.{ap}
 use lib.IntN.{nat_abs}
 use mir.Facts.{to_z-of_z}
-use borrow.Author.Rules.{rules}
 use Rattle.whole.proofs.PlusMinus.{abs_is, one_is_zero}
 use Rattle.whole.proofs.Machine.{back}
 use Rattle.whole.proofs.Rules.{ints}

@@ -5,7 +5,6 @@ use lib.IntN.{ℤ, pos}
 use lib.Signed.{lt_z}
 use mir.Facts.{to_z-of_z}
 use native.Mathlib.Omega.{arith}
-use borrow.Author.Rules.{rules}
 use Rattle.whole.proofs.Machine.{back}
 use Rattle.whole.proofs.InRange.{upto_back}
 use Rattle.assets.specs.Risk.{position_sum, market_risk}

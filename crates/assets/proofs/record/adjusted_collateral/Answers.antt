@@ -1,8 +1,7 @@
 -- `record::adjusted_collateral` meets its contract: N is the raw collateral and the trades. Assumes nothing.
 use mathlib.Core.Path.{◌≡◌, sym, ap, ◌∙◌, subst}
-use lib.IntN.{ℤ, pos, ◌+ℤ◌}
+use lib.IntN.{ℤ, ◌+ℤ◌}
 use mir.Facts.{to_z-of_z}
-use borrow.Author.Rules.{rules}
 use Rattle.whole.specs.Bounds.{◌within◌}
 use Rattle.whole.proofs.Expressions.{Expression, var, ◌⊕◌, is}
 use Rattle.whole.proofs.Machine.{Runs, held, need!, runs}

@@ -4,7 +4,6 @@
 use mathlib.Core.Path.{◌≡◌, sym, ap, ap₂, ◌∙◌, subst}
 use lib.IntN.{ℤ, ◌-ℤ◌}
 use mir.Facts.{to_z-of_z}
-use borrow.Author.Rules.{rules}
 use Rattle.whole.specs.Sums.{Σ<}
 use Rattle.whole.specs.Parts.{tabulated}
 use Rattle.whole.proofs.Expressions.{Expression, var, ◌⊖◌, is}

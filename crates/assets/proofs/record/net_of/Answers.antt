@@ -1,7 +1,6 @@
 -- `record::net_of` meets its contract: claims and obligations are from 0 to a million. Assumes nothing.
 use mathlib.Core.Path.{refl}
 use mir.Facts.{to_z-of_z}
-use borrow.Author.Rules.{rules}
 use Rattle.assets.specs.Asset.{net}
 use Rattle.assets.proofs.record.Positions.{net_within}
 use Rattle.assets.proofs.record.net_of.Goals as goal

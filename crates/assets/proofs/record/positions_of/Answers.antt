@@ -2,14 +2,11 @@
 -- dates.
 -- Assumes nothing.
 use mathlib.Core.Path.{◌≡◌, refl, ap, ◌∙◌}
-use Prim.Native.Nat.{ℕ, ◌≤◌, ◌-◌}
+use Prim.Native.Nat.{ℕ}
 use native.Mathlib.Omega.{arith}
 use lib.IntN.{ℤ, pos}
-use lib.ListN.{length, length-set}
-use mir.Syntax.{w64}
-use mir.Val.{to_z}
+use lib.ListN.{length-set}
 use mir.Facts.{to_z-of_z}
-use borrow.Author.Rules.{rules}
 use Rattle.whole.specs.Parts.{tabulated}
 use Rattle.whole.proofs.Machine.{back}
 use Rattle.whole.proofs.Bounds.{wider}

@@ -1,10 +1,9 @@
 -- `record::with_record` meets its contract. The loop's invariant: the dates passed have the sums of their positions. Assumes nothing.
 use mathlib.Core.Path.{◌≡◌, refl, ap, ◌∙◌}
-use Prim.Native.Nat.{ℕ, ◌-◌, ◌≤◌}
+use Prim.Native.Nat.{ℕ}
 use native.Mathlib.Omega.{arith}
 use lib.IntN.{pos, ◌+ℤ◌}
-use lib.ListN.{length, length-set}
-use borrow.Author.Rules.{rules}
+use lib.ListN.{length-set}
 use Rattle.whole.specs.Parts.{number}
 use Rattle.whole.proofs.Expressions.{Expression, var, ◌⊕◌}
 use Rattle.whole.proofs.Machine.{Runs, need!, runs}

@@ -1,12 +1,8 @@
 -- `record::worth_of` meets its contract: it sums the worth of eight dates, thirty million million each at most. Assumes nothing.
 use Prim.Native.Nat.{◌-◌}
-use native.Mathlib.Omega.{arith}
-use mir.Syntax.{w64}
-use mir.Val.{to_z}
-use mir.Facts.{to_z-of_z}
 use Rattle.whole.specs.Bounds.{◌within◌}
 use Rattle.assets.specs.Asset.{worth_of}
-use Rattle.whole.proofs.Summing.{Summing, withins, turn_fits, ends, sums}
+use Rattle.whole.proofs.Summing.{Summing}
 use Rattle.assets.proofs.record.worth_of.Given as goal
 
 abbrev pub invariant-loop-d : goal.invariant-loop-d

@@ -2,7 +2,6 @@
 use mathlib.Core.Path.{◌≡◌, refl, ap, ap₂, ◌∙◌}
 use lib.IntN.{ℤ, ◌+ℤ◌, ◌*ℤ◌}
 use mir.Facts.{to_z-of_z}
-use borrow.Author.Rules.{rules}
 use Rattle.whole.specs.Bounds.{◌within◌}
 use Rattle.whole.proofs.Machine.{back, clean₂}
 use Rattle.rates.specs.Row.{price, mid, level}

@@ -1,8 +1,8 @@
 -- `risk::charge_of` meets its contract: the part above the limit is what the part up to it leaves, and no unit costs more than ten million. Assumes nothing.
 use mathlib.Core.Path.{◌≡◌, sym, ap, ap₂, ◌∙◌, subst}
 use native.Mathlib.Omega.{arith}
-use lib.IntN.{ℤ, ◌+ℤ◌, ◌-ℤ◌, ◌*ℤ◌}
-use borrow.Author.Rules.{rules}
+use lib.IntN.{ℤ, pos, ◌+ℤ◌, ◌-ℤ◌, ◌*ℤ◌}
+use lib.Signed.{≤ℤ_refl}
 use Rattle.whole.specs.Numbers.{min_ℤ}
 use Rattle.whole.specs.Bounds.{◌within◌, ◌upto◌}
 use Rattle.whole.proofs.Bounds.{upto_within, product_within}
@@ -10,7 +10,7 @@ use Rattle.whole.proofs.Expressions.{Expression, var, ◌⊕◌, ◌⊖◌, ◌�
 use Rattle.whole.proofs.Machine.{Runs, need!, runs, clean₂}
 use Rattle.whole.proofs.Rules.{ints}
 use Rattle.assets.specs.Risk.{charge}
-use Rattle.assets.proofs.risk.Charge.{charge_within, above_left}
+use Rattle.assets.proofs.risk.Charge.{charge_slope, slope_upto, charge_within, above_left}
 use Rattle.assets.proofs.risk.charge_of.Goals as goal
 use Rattle.assets.proofs.risk.charge_of.Goals.{After-lesser-within, Start}
 
@@ -61,7 +61,12 @@ pub returns : goal.returns
 returns c =
     let p = (start c).requires in
     let e = runs (inner c ⊕ outer c) (ok c) ∙ is-charge c in
-    (e, subst (λ (z : ℤ). z within 640000000000000) (sym e) (charge_within p.0 p.1 p.2.low p.3 (omega arith)))
+    record {
+      value = (e, subst (λ (z : ℤ). z within 640000000000000) (sym e) (charge_within p.0 p.1 p.2.low p.3 (omega arith)));
+      not_below = λ b r.
+          let slope = charge_slope (pos 10000000) _ _ _ b.low b.high r.low r.high p.2.low in
+          subst (λ (z : ℤ). z upto 640000000000000) (sym e) (slope_upto 10000000 slope (≤ℤ_refl _) p.3 (omega arith));
+    }
 
 pub overflow_mul-result : goal.overflow_mul-result
 overflow_mul-result c = need! (inner c) (ok c).0

@@ -5,7 +5,6 @@ use Prim.Native.Nat.{ℕ}
 use native.Mathlib.Omega.{arith}
 use lib.IntN.{ℤ}
 use mir.Facts.{to_z-of_z}
-use borrow.Author.Rules.{rules}
 use Rattle.whole.specs.Numbers.{abs_ℤ}
 use Rattle.whole.specs.Parts.{number}
 use Rattle.whole.specs.Bounds.{◌within◌, ◌upto◌}
@@ -55,8 +54,8 @@ width_back h = subst (λ (z : ℤ). z within 10000000) (sym (to_z-of_z h.fits)) 
 pub charge_of-requires : goal.charge_of-requires
 charge_of-requires c =
     let s = c in (
-      width_back c.width-inner.ensures.1,
-      width_back c.width-outer.ensures.1,
+      width_back c.width-inner.ensures.value.1,
+      width_back c.width-outer.ensures.value.1,
       upto_back s.requires.0.interest_upto,
       upto_back (upto_wider 64000000 (sized-upto c) (omega arith)),
     )
@@ -80,9 +79,9 @@ module _ (c : After-charge_of) where
 
   made : back c.charge_of.result ≡ chargeOn chosen.side_of-side.result
   made =
-      let r = c.charge_of.ensures in
-      let inner = c.width-inner.ensures in
-      let outer = c.width-outer.ensures in
+      let r = c.charge_of.ensures.value in
+      let inner = c.width-inner.ensures.value in
+      let outer = c.width-outer.ensures.value in
       let limit = to_z-of_z start.requires.0.interest_upto.fits in
       let units = to_z-of_z c.size.ensures.1 ∙ sized c.before in
       to_z-of_z r.1.fits ∙ r.0

@@ -1,15 +1,9 @@
 -- `risk::long_sum` meets its contract: it sums the long units of eight dates, at most eight million each. Assumes nothing.
-use mathlib.Core.Path.{◌≡◌, ap, ◌∙◌}
 use Prim.Native.Nat.{◌-◌}
-use native.Mathlib.Omega.{arith}
-use lib.IntN.{pos}
-use mir.Facts.{to_z-of_z}
-use Rattle.whole.specs.Numbers.{max_ℤ}
 use Rattle.whole.specs.Bounds.{◌upto◌}
 use Rattle.whole.specs.Parts.{number}
-use Rattle.whole.proofs.Rules.{ints}
-use Rattle.whole.proofs.Summing.{Summing, uptos, ends, sums}
-use Rattle.assets.specs.Risk.{long, long_sum}
+use Rattle.whole.proofs.Summing.{Summing}
+use Rattle.assets.specs.Risk.{long}
 use Rattle.assets.proofs.risk.long_sum.Given as goal
 
 abbrev pub invariant-loop-d : goal.invariant-loop-d

@@ -4,7 +4,6 @@ use mathlib.Core.Path.{sym, ap, ◌∙◌, subst}
 use native.Mathlib.Omega.{arith}
 use lib.IntN.{ℤ, ◌*ℤ◌}
 use mir.Facts.{to_z-of_z}
-use borrow.Author.Rules.{rules}
 use Rattle.whole.specs.Numbers.{divided_up}
 use Rattle.whole.specs.Bounds.{◌upto◌}
 use Rattle.whole.proofs.PlusMinus.{abs_is}

@@ -1,10 +1,8 @@
 -- `risk::sum_of` meets its contract: it sums over eight dates, at most eight million each. Assumes nothing.
 use Prim.Native.Nat.{◌-◌}
-use native.Mathlib.Omega.{arith}
 use Rattle.whole.specs.Bounds.{◌within◌}
 use Rattle.whole.specs.Parts.{number}
-use Rattle.assets.specs.Risk.{position_sum}
-use Rattle.whole.proofs.Summing.{Summing, withins, ends, sums}
+use Rattle.whole.proofs.Summing.{Summing}
 use Rattle.assets.proofs.risk.sum_of.Given as goal
 
 abbrev pub invariant-loop-d : goal.invariant-loop-d

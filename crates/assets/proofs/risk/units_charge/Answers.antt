@@ -4,7 +4,6 @@ use mathlib.Core.Path.{sym, ◌∙◌, subst}
 use native.Mathlib.Omega.{arith}
 use lib.IntN.{ℤ}
 use mir.Facts.{to_z-of_z}
-use borrow.Author.Rules.{rules}
 use Rattle.whole.specs.Bounds.{◌within◌, ◌upto◌}
 use Rattle.whole.proofs.Bounds.{upto_within}
 use Rattle.whole.proofs.Machine.{back}
@@ -34,6 +33,6 @@ returns c =
     let raised = to_z-of_z rates.raised_upto.fits in
     let limit = to_z-of_z p.0.market_upto.fits in
     let units = to_z-of_z s.ranges.n in
-    let r = c.charge_of.ensures in
+    let r = c.charge_of.ensures.value in
     let e = to_z-of_z r.1.fits ∙ r.0 ∙ (λ i. charge (base i) (raised i) (limit i) (units i)) in
     (e, subst (λ (z : ℤ). z upto 640000000000) (sym e) (slope_upto 10000 (side_slope _ p.0 s.args.side p.1) rates.highest_upto.high p.2 (omega arith)))

@@ -1,5 +1,4 @@
 -- `accounts::block_of` meets its contract: what is lent is the account's block. Assumes nothing.
-use borrow.Author.Rules.{rules}
 use lib.ListN.{length}
 use mathlib.Core.List.{List}
 use mathlib.Core.Path.{◌≡◌}

@@ -4,7 +4,6 @@ use mathlib.Core.List.{List}
 use lib.IntN.{ℤ}
 use lib.ListN.{length}
 use mir.Facts.{to_z-of_z}
-use borrow.Author.Rules.{rules}
 use Rattle.book.specs.Changes.{opened}
 use Rattle.book.proofs.AtAccount.{lent, back_at, of_lent, block_long}
 use Rattle.book.proofs.accounts.open_in.Goals as goal

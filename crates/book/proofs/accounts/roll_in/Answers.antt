@@ -1,5 +1,4 @@
 -- `accounts::roll_in` meets its contract: the block is lent, rolled, and given back. Assumes nothing.
-use borrow.Author.Rules.{rules}
 use Rattle.book.specs.Roll.{rolled}
 use Rattle.book.specs.Ranges.{Bounded}
 use Rattle.book.proofs.AtAccount.{back_at, of_lent}

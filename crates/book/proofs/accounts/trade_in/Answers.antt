@@ -1,5 +1,4 @@
 -- `accounts::trade_in` meets its contract: the block is lent, the trade booked in it, and given back. Assumes nothing.
-use borrow.Author.Rules.{rules}
 use mathlib.Core.List.{List}
 use lib.IntN.{ℤ}
 use Rattle.book.specs.Changes.{traded}

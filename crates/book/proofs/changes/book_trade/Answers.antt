@@ -5,7 +5,6 @@ use Prim.Native.Nat.{ℕ}
 use native.Mathlib.Omega.{arith}
 use lib.IntN.{ℤ}
 use mir.Facts.{to_z-of_z}
-use borrow.Author.Rules.{rules}
 use Rattle.whole.specs.Bounds.{◌within◌}
 use Rattle.whole.proofs.Bounds.{wider}
 use Rattle.book.specs.Changes.{added, traded}
@@ -18,7 +17,6 @@ add-requires c = let at = c.before.before.before in let s = at.before in let r =
   rw e (quantity_inside _ r s.args.block.now s.requires.bounded.long),
   rw e (quantity_before _ _ s.requires),
   subst (λ (z : ℤ). z within large) (sym (to_z-of_z r.quantity_within.fits)) (wider large r.quantity_within (omega arith)),
-
 )
 
 -- the block after the first of the two

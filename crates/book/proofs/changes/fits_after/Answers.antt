@@ -1,7 +1,6 @@
 -- `changes::fits_after` meets its contract: the sum of two numbers within 10^14 fits. Assumes nothing.
 use mathlib.Core.Path.{◌∙◌}
 use mir.Facts.{to_z-of_z}
-use borrow.Author.Rules.{rules}
 use Rattle.book.proofs.Amounts.{sum_fits, summed}
 use Rattle.book.proofs.changes.fits_after.Goals as goal
 

@@ -4,7 +4,6 @@ use Prim.Native.Nat.{ℕ}
 use lib.IntN.{ℤ}
 use native.Mathlib.Omega.{arith}
 use mir.Facts.{to_z-of_z}
-use borrow.Author.Rules.{rules}
 use Rattle.whole.specs.Bounds.{◌within◌}
 use Rattle.book.specs.Changes.{added, moved}
 use Rattle.book.proofs.Amounts.{large}
@@ -16,7 +15,6 @@ add-requires c = let s = c.before.before in let e = c.move_at.ensures in (
   omega (arith, e.1, s.requires.bounded.long),
   rw e.0 (before_move _ _ _ s.requires),
   subst (λ (z : ℤ). z within large) (sym (to_z-of_z s.ranges.amount)) s.requires.amount_within,
-
 )
 
 pub returns : goal.returns

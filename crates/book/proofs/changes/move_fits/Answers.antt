@@ -3,7 +3,6 @@ use mathlib.Core.Path.{sym, ◌∙◌, subst}
 use native.Mathlib.Omega.{arith}
 use lib.IntN.{ℤ}
 use mir.Facts.{to_z-of_z}
-use borrow.Author.Rules.{rules}
 use Rattle.whole.specs.Bounds.{◌within◌}
 use Rattle.book.proofs.Amounts.{large}
 use Rattle.book.proofs.Moves.{before_move, move_test}
@@ -14,7 +13,6 @@ fits_after-requires c = let s = c.before.before.before in let e = c.move_at.ensu
   omega (arith, e.1, s.requires.bounded.long),
   rw e.0 (before_move _ _ _ s.requires),
   subst (λ (z : ℤ). z within large) (sym (to_z-of_z s.ranges.amount)) s.requires.amount_within,
-
 )
 
 pub returns : goal.returns

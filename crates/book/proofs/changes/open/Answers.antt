@@ -1,7 +1,6 @@
 -- `changes::open` meets its contract: kind and code are stored as they are. Assumes nothing.
 use mir.Facts.{to_z-of_z}
 use lib.ListN.{set}
-use borrow.Author.Rules.{rules}
 use Rattle.book.specs.Changes.{opened}
 use Rattle.book.proofs.changes.open.Goals as goal
 

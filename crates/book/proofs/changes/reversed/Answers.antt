@@ -27,7 +27,6 @@ made t r = λ i. record {
   side = t.side;
   quantity = negated (wider large r.quantity_within (omega arith)) i;
   money = negated r.money_within i;
-
 }
 
 pub returns : goal.returns

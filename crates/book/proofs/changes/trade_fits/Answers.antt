@@ -1,17 +1,16 @@
 -- `changes::trade_fits` meets its contract: of a block in bounds a trade can put only its own two numbers out of them. Assumes nothing.
-use mathlib.Core.Path.{◌≡◌, sym, ap, ap₂, ◌∙◌, subst}
+use mathlib.Core.Path.{sym, ap, ap₂, ◌∙◌, subst}
 use Prim.Native.Nat.{ℕ}
 use native.Mathlib.Omega.{arith}
 use lib.IntN.{ℤ, ◌+ℤ◌}
 use mir.Facts.{to_z-of_z}
-use borrow.Author.Rules.{rules}
 use Rattle.whole.specs.Bounds.{◌within◌}
 use Rattle.whole.specs.Parts.{number}
 use Rattle.whole.proofs.Bounds.{wider}
 use Rattle.whole.proofs.Tests.{left, taken}
 use Rattle.book.specs.Rules.{rubles_right, quantity_right}
 use Rattle.book.proofs.Amounts.{large}
-use Rattle.book.proofs.Trades.{net_at, quantity_after, quantity_inside, net_inside, quantity_before, net_before, quantity_out, net_alone}
+use Rattle.book.proofs.Trades.{net_at, quantity_inside, net_inside, quantity_before, net_before, quantity_out, net_alone}
 use Rattle.book.proofs.changes.trade_fits.Goals as goal
 
 pub fits_after-requires : goal.fits_after-requires
@@ -19,7 +18,6 @@ fits_after-requires c = let s = c.before.before in let e = c.trade_at.ensures in
   rw e (quantity_inside _ s.requires.ranges s.args.block.now s.requires.bounded.long),
   rw e (quantity_before _ _ s.requires),
   subst (λ (z : ℤ). z within large) (sym (to_z-of_z s.requires.ranges.quantity_within.fits)) (wider large s.requires.ranges.quantity_within (omega arith)),
-
 )
 
 pub returns-then-not-fits_after : goal.returns-then-not-fits_after
@@ -32,7 +30,6 @@ fits_after-requires-2 c = let s = c.before.before.before.before.before.before in
   net_inside _ s.requires.ranges s.args.block.now s.requires.bounded.long,
   net_before _ _ s.requires,
   subst (λ (z : ℤ). z within large) (sym (to_z-of_z m.1.fits)) m.1,
-
 )
 
 pub returns : goal.returns

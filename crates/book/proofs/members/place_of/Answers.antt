@@ -3,7 +3,6 @@ use mathlib.Core.Path.{◌≡◌, ap}
 use Prim.Native.Nat.{ℕ}
 use native.Mathlib.Omega.{arith}
 use lib.ListN.{get_or}
-use borrow.Author.Rules.{rules}
 use Rattle.book.specs.Members.{member_at}
 use Rattle.book.proofs.members.place_of.Goals as goal
 use Rattle.book.proofs.members.place_of.Goals.{Start}

@@ -1,15 +1,9 @@
 -- `rolling::day_later` meets its contract. The loop's invariant: the numbers before d have stepped on, the others are as they were.
 -- Assumes nothing.
-use mathlib.Core.Path.{◌≡◌, refl, sym, ap, ◌∙◌}
-use Prim.Native.Nat.{ℕ, ◌+◌, ◌-◌, ◌≤◌}
-use mathlib.Core.List.{List}
-use native.Mathlib.Omega.{arith}
-use lib.IntN.{ℤ, pos}
-use lib.ListN.{length, set, length-set}
-use mir.Facts.{to_z-of_z}
-use borrow.Author.Rules.{rules, sfits_of}
-use Rattle.whole.specs.Parts.{number}
-use Rattle.book.proofs.rolling.DayLater.{stepped, stepped_ahead, stepped_on, stepped_end}
+use mathlib.Core.Path.{◌≡◌}
+use Prim.Native.Nat.{◌-◌, ◌≤◌}
+use lib.ListN.{length}
+use Rattle.book.proofs.rolling.DayLater.{stepped}
 use Rattle.book.proofs.rolling.day_later.Given as goal
 
 abbrev pub invariant-loop-d : goal.invariant-loop-d

@@ -1,7 +1,6 @@
 -- `rolling::holding_fits` meets its contract: collateral, claim and obligation are small, so that what the roll makes of them fits.
 -- Assumes nothing.
 use mathlib.Core.Path.{ap, ◌∙◌}
-use borrow.Author.Rules.{rules}
 use Rattle.book.specs.Rules.{collateral_right}
 use Rattle.book.specs.Roll.{rolled_holding}
 use Rattle.book.proofs.Amounts.{sum_fits, difference_fits, differed}

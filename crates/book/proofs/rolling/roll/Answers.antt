@@ -1,11 +1,7 @@
 -- `rolling::roll` meets its contract. The loop's invariant: the rubles and the holdings before a are rolled. Assumes nothing.
 use mathlib.Core.Path.{◌≡◌, sym, ap, ◌∙◌, subst}
-use mathlib.Core.List.{List}
-use Prim.Native.Nat.{ℕ, ◌-◌, ◌≤◌}
+use Prim.Native.Nat.{ℕ}
 use native.Mathlib.Omega.{arith}
-use lib.IntN.{ℤ}
-use lib.ListN.{length}
-use borrow.Author.Rules.{rules}
 use Rattle.whole.specs.Parts.{part}
 use Rattle.book.specs.Ranges.{HoldingRanges}
 use Rattle.book.proofs.InBounds.{ruble_ranges, holding_ranges}

@@ -1,15 +1,10 @@
 -- `rolling::roll` meets its contract. The loop's invariant: the rubles and the holdings before a are rolled. Assumes nothing.
-use mathlib.Core.Path.{◌≡◌, sym, ap, ◌∙◌, subst}
+use mathlib.Core.Path.{◌≡◌}
 use mathlib.Core.List.{List}
-use Prim.Native.Nat.{ℕ, ◌-◌, ◌≤◌}
-use native.Mathlib.Omega.{arith}
+use Prim.Native.Nat.{◌-◌, ◌≤◌}
 use lib.IntN.{ℤ}
 use lib.ListN.{length}
-use borrow.Author.Rules.{rules}
-use Rattle.whole.specs.Parts.{part}
-use Rattle.book.specs.Ranges.{HoldingRanges}
-use Rattle.book.proofs.InBounds.{ruble_ranges, holding_ranges}
-use Rattle.book.proofs.Rolled.{rolled_to, rolled_to_lem, to_begin, to_next, holding_next_up}
+use Rattle.book.proofs.Rolled.{rolled_to}
 use Rattle.book.proofs.rolling.roll.Given as goal
 
 abbrev pub invariant-loop-a : goal.invariant-loop-a

@@ -1,18 +1,13 @@
 -- `rolling::roll_fits` meets its contract. The loop's invariant: the holdings before a keep their bounds when rolled. Assumes nothing.
 use mathlib.Core.Path.{◌≡◌, sym, ap, ◌∙◌, subst}
-use mathlib.Core.Bool.{true}
 use mathlib.Core.List.{List}
-use Prim.Native.Nat.{◌-◌, ◌≤◌}
 use native.Mathlib.Omega.{arith}
 use lib.IntN.{ℤ}
-use lib.ListN.{length}
-use borrow.Author.Rules.{rules}
 use Rattle.whole.specs.Parts.{part, number}
 use Rattle.whole.proofs.Tests.{left, taken}
-use Rattle.whole.specs.Marks.{every}
 use Rattle.whole.proofs.Every.{every_none, every_done}
-use Rattle.book.specs.Rules.{collateral_right, holding_right_at}
-use Rattle.book.specs.Roll.{rolled_holding, rolled}
+use Rattle.book.specs.Rules.{collateral_right}
+use Rattle.book.specs.Roll.{rolled_holding}
 use Rattle.book.specs.Ranges.{HoldingRanges}
 use Rattle.book.proofs.Blocks.{lent_holding}
 use Rattle.book.proofs.InBounds.{ruble_ranges, holding_ranges}

@@ -2,7 +2,6 @@
 use mathlib.Core.Path.{◌∙◌}
 use native.Mathlib.Omega.{arith}
 use lib.ListN.{length-set}
-use borrow.Author.Rules.{rules}
 use Rattle.whole.proofs.Rules.{ints}
 use Rattle.book.proofs.Amounts.{sum_fits, summed, differed}
 use Rattle.book.proofs.InBounds.{collateral_size, claim_size, obligation_size}

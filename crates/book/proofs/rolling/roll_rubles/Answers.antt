@@ -2,7 +2,6 @@
 use mathlib.Core.Path.{◌∙◌}
 use native.Mathlib.Omega.{arith}
 use lib.ListN.{length-set}
-use borrow.Author.Rules.{rules}
 use Rattle.book.proofs.Amounts.{sum_fits, summed}
 use Rattle.book.proofs.rolling.DayLater.{rubles_rolled}
 use Rattle.book.proofs.rolling.roll_rubles.Goals as goal

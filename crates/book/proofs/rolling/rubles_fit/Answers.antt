@@ -1,7 +1,6 @@
 -- `rolling::rubles_fit` meets its contract: the sum of two numbers within 10^14 fits. Assumes nothing.
 use mathlib.Core.Path.{ap, ◌∙◌}
 use native.Mathlib.Omega.{arith}
-use borrow.Author.Rules.{rules}
 use Rattle.book.specs.Rules.{rubles_right}
 use Rattle.book.specs.Roll.{rolled_rubles}
 use Rattle.book.proofs.Amounts.{sum_fits, summed}

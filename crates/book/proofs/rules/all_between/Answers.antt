@@ -1,16 +1,9 @@
 -- `rules::all_between` meets its contract. The loop's invariant: the answer is that for the numbers from k on. Assumes nothing.
 use mathlib.Core.Path.{◌≡◌, refl, sym, ap₂, ◌∙◌}
-use mathlib.Core.Bool.{Bool}
 use mathlib.Core.List.{map}
-use Prim.Native.Nat.{◌-◌, ◌≤◌}
 use native.Mathlib.Omega.{arith}
 use lib.IntN.{ℤ, pos}
-use lib.ListN.{length, drop}
-use borrow.Author.Rules.{rules}
-use mir.Syntax.{w64}
-use mir.Val.{to_z}
 use mir.Facts.{to_z-of_z}
-use Rattle.whole.specs.Bounds.{between}
 use Rattle.whole.specs.Marks.{all_true}
 use Rattle.whole.proofs.Machine.{back}
 use Rattle.whole.proofs.Tests.{left, taken}

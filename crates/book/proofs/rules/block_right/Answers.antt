@@ -1,7 +1,6 @@
 -- `rules::block_right` meets its contract: a block whose number 0 is 0 has to be empty, any other has head and bounds right.
 -- Assumes nothing.
 use mathlib.Core.Path.{sym, ◌∙◌}
-use borrow.Author.Rules.{rules}
 use Rattle.whole.proofs.Tests.{left, taken, passed, failed, first_out, and_then}
 use Rattle.book.proofs.Good.{good_closed, good_open}
 use Rattle.book.proofs.rules.block_right.Goals as goal

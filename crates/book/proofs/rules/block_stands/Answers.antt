@@ -1,7 +1,6 @@
 -- `rules::block_stands` meets its contract: a block whose number 0 is 0 has to be empty, and then holds nothing; any other has head, rubles and holdings
 -- right, with nothing held of an unlisted asset. Assumes nothing.
 use mathlib.Core.Path.{sym, ◌∙◌}
-use borrow.Author.Rules.{rules}
 use Rattle.whole.proofs.Tests.{left, taken, passed, failed, first_out, and_then}
 use Rattle.book.proofs.Good.{stands_closed, stands_open}
 use Rattle.book.proofs.rules.block_stands.Goals as goal

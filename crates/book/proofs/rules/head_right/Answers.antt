@@ -1,5 +1,4 @@
 -- `rules::head_right` meets its contract: its tests are the marks, in their order. Assumes nothing.
-use borrow.Author.Rules.{rules}
 use Rattle.whole.specs.Marks.{all_true}
 use Rattle.whole.proofs.Lists.{and-true}
 use Rattle.whole.proofs.Chains.{and_assoc, and_same}

@@ -2,7 +2,6 @@
 use mathlib.Core.Path.{sym, ap, ◌∙◌}
 use mathlib.Core.List.{List, map}
 use lib.IntN.{ℤ}
-use borrow.Author.Rules.{rules}
 use Rattle.whole.specs.Marks.{all_true}
 use Rattle.whole.proofs.Tests.{left, taken, first_out, and_then}
 use Rattle.book.specs.Rules.{quantity_right, holding_right}

@@ -1,6 +1,5 @@
 -- `rules::holding_stands` meets its contract: of a listed asset the bounds are asked, and of an unlisted one zeros, which keep them. Assumes nothing.
 use mathlib.Core.Path.{ap, ◌∙◌}
-use borrow.Author.Rules.{rules}
 use Rattle.whole.specs.Marks.{all_zero}
 use Rattle.whole.proofs.Tests.{passed, failed}
 use Rattle.book.specs.Rules.{holding_right}

@@ -1,15 +1,10 @@
 -- `rules::holdings_right` meets its contract. The loop's invariant: the holdings of the assets before a keep their bounds. Assumes nothing.
-use mathlib.Core.Path.{◌≡◌, sym, ap, ◌∙◌}
+use mathlib.Core.Path.{◌≡◌}
 use mathlib.Core.Bool.{true}
 use Prim.Native.Nat.{◌-◌, ◌≤◌}
-use native.Mathlib.Omega.{arith}
 use lib.ListN.{length}
-use borrow.Author.Rules.{rules}
-use Rattle.whole.proofs.Tests.{left, taken}
 use Rattle.whole.specs.Marks.{every}
-use Rattle.whole.proofs.Every.{every_none, every_out, every_next, every_done}
-use Rattle.book.specs.Rules.{holding_right, holding_right_at}
-use Rattle.book.proofs.Blocks.{lent_holding, lent_length}
+use Rattle.book.specs.Rules.{holding_right_at}
 use Rattle.book.proofs.rules.holdings_right.Given as goal
 
 abbrev pub invariant-loop-a : goal.invariant-loop-a

@@ -1,16 +1,9 @@
 -- `rules::holdings_stand` meets its contract. The loop's invariant: the holdings of the assets before a stand, by both tests. Assumes nothing.
-use mathlib.Core.Path.{◌≡◌, sym, ◌∙◌}
-use mathlib.Core.Bool.{Bool, true, ◌&&◌}
-use mathlib.Core.List.{List}
-use Prim.Native.Nat.{ℕ, ◌-◌, ◌≤◌}
+use mathlib.Core.Path.{sym, ◌∙◌}
 use native.Mathlib.Omega.{arith}
-use lib.IntN.{ℤ}
-use lib.ListN.{length}
-use borrow.Author.Rules.{rules}
-use Rattle.whole.specs.Marks.{every}
 use Rattle.whole.proofs.Tests.{left, taken}
 use Rattle.whole.proofs.Every.{every_none, every_out, every_next, every_done}
-use Rattle.book.specs.Rules.{holding_right_at, listed_if_held, holds_listed}
+use Rattle.book.specs.Rules.{holds_listed}
 use Rattle.book.proofs.Holdings.{every_both}
 use Rattle.book.proofs.rules.holdings_stand.Invariants.{asked}
 use Rattle.book.proofs.rules.holdings_stand.Goals as goal

@@ -1,12 +1,7 @@
 -- `rules::holds_listed` meets its contract. The loop's invariant: before asset a, nothing is held of an unlisted one. Assumes nothing.
-use mathlib.Core.Path.{◌≡◌, sym, ap, ◌∙◌}
-use mathlib.Core.Logic.{⊎_elim}
-use mathlib.Core.Bool.{true}
-use Prim.Native.Nat.{◌-◌, ◌≤◌}
+use mathlib.Core.Path.{sym, ap, ◌∙◌}
 use native.Mathlib.Omega.{arith}
-use lib.ListN.{length}
-use borrow.Author.Rules.{rules}
-use Rattle.whole.specs.Marks.{all_zero, every}
+use Rattle.whole.specs.Marks.{all_zero}
 use Rattle.whole.proofs.Tests.{left, taken, either_left, either_right, neither}
 use Rattle.whole.proofs.Every.{every_none, every_out, every_next, every_done}
 use Rattle.rates.specs.Tables.{listed}
@@ -32,7 +27,7 @@ loop-a-preserved c =
       l.invariant.0,
       omega arith,
       every_next (listed_if_held _ _) l.a l.invariant.2 (elim c.if-not-is_listed.branch [
-        then-not-is_listed+else-not-all_zero w ↦ either_right (listed _ l.a) _ (ap all_zero (sym (lent_holding _ l.a)) ∙ left w.all_zero.ensures w.if-not-all_zero.false-raw)
+        | then-not-is_listed+else-not-all_zero w ↦ either_right (listed _ l.a) _ (ap all_zero (sym (lent_holding _ l.a)) ∙ left w.all_zero.ensures w.if-not-all_zero.false-raw)
         | else-not-is_listed w ↦ either_left _ _ (left c.is_listed.ensures w.if-not-is_listed.false-raw)
       ]),
     )

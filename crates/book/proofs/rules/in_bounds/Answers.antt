@@ -1,6 +1,5 @@
 -- `rules::in_bounds` meets its contract: the rubles, then the holdings. Assumes nothing.
 use mathlib.Core.Path.{sym}
-use borrow.Author.Rules.{rules}
 use Rattle.whole.proofs.Tests.{left, taken, first_out, and_then}
 use Rattle.book.specs.Rules.{in_bounds}
 use Rattle.book.proofs.rules.in_bounds.Goals as goal

@@ -1,18 +1,9 @@
 -- `rules::is_empty` meets its contract: a block is all zero where its parts are. The loop's invariant: the answer is that for the parts from k on.
 -- Assumes nothing.
-use mathlib.Core.Path.{◌≡◌, refl, sym, ap, ◌∙◌}
-use mathlib.Core.Bool.{◌&&◌}
-use mathlib.Core.List.{List}
-use Prim.Native.Nat.{ℕ, ◌+◌, ◌*◌, ◌-◌, ◌≤◌}
-use native.Mathlib.Omega.{arith}
-use lib.IntN.{ℤ, pos}
-use lib.ListN.{length, take, drop, take-append-drop}
-use lib.Seq.{drop-drop}
-use borrow.Author.Rules.{rules}
-use Rattle.whole.specs.Bounds.{is_zero}
+use mathlib.Core.Path.{◌≡◌}
+use Prim.Native.Nat.{◌*◌, ◌-◌, ◌≤◌}
+use lib.ListN.{length, drop}
 use Rattle.whole.specs.Marks.{all_zero}
-use Rattle.whole.proofs.Tests.{left, taken, first_out, and_then}
-use Rattle.whole.proofs.Lists.{all_append, all_end}
 use Rattle.book.proofs.rules.is_empty.Given as goal
 
 abbrev pub invariant-loop-k : goal.invariant-loop-k

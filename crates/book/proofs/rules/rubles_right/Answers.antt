@@ -1,5 +1,4 @@
 -- `rules::rubles_right` meets its contract: the rubles are the part from 1 to 10. Assumes nothing.
-use borrow.Author.Rules.{rules}
 use Rattle.whole.specs.Parts.{part}
 use Rattle.book.proofs.rules.rubles_right.Goals as goal
 

@@ -1,7 +1,7 @@
 -- `terms::amounts_right` meets its contract: its tests are the definition's, in their order. Assumes nothing.
 use mathlib.Core.Path.{ap₂}
 use mathlib.Core.Bool.{◌&&◌}
-use borrow.Author.Rules.{rules, sfits_of}
+use borrow.Author.Rules.{sfits_of}
 use Rattle.whole.proofs.Parameters.{heard}
 use Rattle.book.proofs.terms.amounts_right.Goals as goal
 

@@ -1,5 +1,4 @@
 -- `terms::asset_right` meets its contract. Assumes nothing.
-use borrow.Author.Rules.{rules}
 use Rattle.whole.proofs.Parameters.{heard}
 use Rattle.book.proofs.terms.asset_right.Goals as goal
 

@@ -1,5 +1,4 @@
 -- `terms::is_rubles` meets its contract. Assumes nothing.
-use borrow.Author.Rules.{rules}
 use Rattle.whole.proofs.Parameters.{heard}
 use Rattle.book.proofs.terms.is_rubles.Goals as goal
 

@@ -1,7 +1,6 @@
 -- `terms::move_amount_right` meets its contract: 0 is no amount, and rubles have the wider bounds. Assumes nothing.
 use mathlib.Core.Path.{ap, ◌∙◌}
 use mir.Facts.{to_z-of_z}
-use borrow.Author.Rules.{rules}
 use Rattle.whole.proofs.Parameters.{heard}
 use Rattle.whole.proofs.Tests.{passed, failed}
 use Rattle.book.specs.Choices.{is_rubles}

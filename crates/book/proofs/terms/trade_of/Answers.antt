@@ -1,6 +1,6 @@
 -- `terms::trade_of` meets its contract: asset, date and side are none of them negative. Assumes nothing.
 use native.Mathlib.Omega.{arith}
-use borrow.Author.Rules.{rules, sfits_of}
+use borrow.Author.Rules.{sfits_of}
 use Rattle.whole.proofs.Parameters.{index}
 use Rattle.book.proofs.Allowed.{asset_in, date_in, side_in}
 use Rattle.book.proofs.terms.trade_of.Goals as goal

@@ -1,6 +1,5 @@
 -- `gate::block_code` meets its contract: the test of the code and the test of the block lent are the two refusals. Assumes nothing.
 use mathlib.Core.Path.{sym}
-use borrow.Author.Rules.{rules}
 use Rattle.whole.proofs.Parameters.{codes}
 use Rattle.engine.proofs.gate.block_code.Goals as goal
 

@@ -3,7 +3,7 @@ use mathlib.Core.Path.{sym, ap, ◌∙◌, subst}
 use mir.Facts.{to_z-of_z}
 use mir.Syntax.{w64}
 use mir.Val.{SFits}
-use borrow.Author.Rules.{rules, sfits_of}
+use borrow.Author.Rules.{sfits_of}
 use Rattle.figures.specs.declared.limit.Figures.{Figures}
 use Rattle.engine.proofs.gate.limit_at.Goals as goal
 

@@ -3,7 +3,6 @@ use mathlib.Core.Path.{ap, ◌∙◌}
 use native.Mathlib.Omega.{arith}
 use lib.IntN.{nat_abs}
 use mir.Facts.{to_z-of_z}
-use borrow.Author.Rules.{rules}
 use Rattle.engine.specs.Refused.{place_of}
 use Rattle.whole.proofs.Parameters.{codes, index, in_range, out_of_range}
 use Rattle.engine.proofs.gate.place.Goals as goal

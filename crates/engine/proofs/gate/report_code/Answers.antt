@@ -1,7 +1,6 @@
 -- `gate::report_code` meets its contract: codes 1, 2, 13 and 3, then 6 and 4 of the account that is there. Assumes nothing.
 use mathlib.Core.Path.{sym, ◌∙◌}
 use mathlib.Core.List.{List}
-use borrow.Author.Rules.{rules}
 use Rattle.whole.specs.Refusals.{Refusal}
 use Rattle.whole.proofs.Refusals.{stops, follows}
 use Rattle.rates.specs.Lent.{lent}

@@ -1,7 +1,6 @@
 -- `gate::table_gate` meets its contract: the table check's code is the gate's where the book has its length, and the account is looked at last.
 -- Assumes nothing.
 use mathlib.Core.Path.{◌≡◌, sym, ap, ◌∙◌}
-use borrow.Author.Rules.{rules}
 use borrow.Author.Tests.{lt-ltb, le-ltb}
 use mathlib.Core.Bool.{not}
 use Rattle.whole.proofs.Refusals.{none, hit, miss}

@@ -4,7 +4,6 @@ use mathlib.Core.Bool.{true, false}
 use native.Mathlib.Omega.{arith}
 use lib.IntN.{ℤ, nat_abs}
 use mir.Facts.{to_z-of_z}
-use borrow.Author.Rules.{rules}
 use Rattle.whole.proofs.Parameters.{index}
 use Rattle.whole.proofs.Tests.{passed, failed, left, taken}
 use Rattle.rates.specs.Tables.{listed}

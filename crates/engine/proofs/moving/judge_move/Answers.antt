@@ -7,7 +7,6 @@ use native.Mathlib.Omega.{arith}
 use lib.IntN.{ℤ, pos}
 use lib.Signed.{le_z, lt_z}
 use mir.Facts.{to_z-of_z}
-use borrow.Author.Rules.{rules}
 use Rattle.whole.proofs.Machine.{back}
 use Rattle.whole.proofs.Parameters.{negative}
 use Rattle.whole.proofs.Refusals.{none, hit, miss, code}

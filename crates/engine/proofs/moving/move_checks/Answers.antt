@@ -1,7 +1,6 @@
 -- `moving::move_checks` meets its contract: its two tests are the two refusals. Assumes nothing.
 use mathlib.Core.Path.{◌≡◌, ap, ◌∙◌}
 use mir.Facts.{to_z-of_z}
-use borrow.Author.Rules.{rules}
 use Rattle.whole.proofs.Parameters.{codes}
 use Rattle.book.specs.Choices.{move_amount_right}
 use Rattle.engine.specs.Refused.{move_choice_right}

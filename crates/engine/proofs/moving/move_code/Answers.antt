@@ -6,7 +6,6 @@ use Prim.Native.Nat.{ℕ}
 use native.Mathlib.Omega.{arith}
 use lib.IntN.{ℤ, nat_abs}
 use mir.Facts.{to_z-of_z}
-use borrow.Author.Rules.{rules}
 use Rattle.whole.specs.Refusals.{Refusal, ◌gives◌, first_code, out_of_bounds}
 use Rattle.whole.proofs.Parameters.{index, out, not_out}
 use Rattle.whole.proofs.Refusals.{none, hit, miss, code, stops, follows}

@@ -4,7 +4,6 @@ use Prim.Native.Nat.{ℕ}
 use native.Mathlib.Omega.{arith}
 use lib.IntN.{nat_abs}
 use mir.Facts.{to_z-of_z}
-use borrow.Author.Rules.{rules}
 use Rattle.whole.specs.Refusals.{first_code}
 use Rattle.rates.specs.Lent.{Tables, lent}
 use Rattle.engine.specs.State.{state}

@@ -2,7 +2,6 @@
 use mathlib.Core.Path.{ap, ◌∙◌}
 use Prim.Native.Nat.{ℕ}
 use mir.Facts.{to_z-of_z}
-use borrow.Author.Rules.{rules}
 use Rattle.whole.specs.Refusals.{first_code}
 use Rattle.rates.specs.Lent.{lent}
 use Rattle.engine.specs.State.{state}

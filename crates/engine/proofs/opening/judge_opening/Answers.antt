@@ -1,12 +1,11 @@
 -- `opening::judge_opening` meets its contract: the block is opened, the code that it makes is looked at, and where that is not right the block is closed
 -- again, which leaves the book as it was. Assumes nothing.
 use mathlib.Core.Path.{◌≡◌, refl, sym, ap, ◌∙◌}
-use mathlib.Core.Bool.{Bool, true, not}
+use mathlib.Core.Bool.{Bool}
 use mathlib.Core.List.{List}
 use native.Mathlib.Omega.{arith}
 use lib.IntN.{ℤ, pos}
 use mir.Facts.{to_z-of_z}
-use borrow.Author.Rules.{rules}
 use Rattle.whole.proofs.Parameters.{heard}
 use Rattle.whole.proofs.Refusals.{none, hit, miss, code}
 use Rattle.whole.proofs.Tests.{left, taken, passed, failed, both, first_out, second_out, denied, refuted}

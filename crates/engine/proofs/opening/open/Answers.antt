@@ -2,7 +2,6 @@
 use mathlib.Core.Path.{◌≡◌, refl, sym, ap, ◌∙◌}
 use Prim.Native.Nat.{ℕ}
 use mir.Facts.{to_z-of_z}
-use borrow.Author.Rules.{rules}
 use Rattle.whole.specs.Refusals.{first_code}
 use Rattle.engine.specs.State.{state}
 use Rattle.engine.specs.Refused.{place_of, open_stands}

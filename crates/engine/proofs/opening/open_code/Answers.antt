@@ -4,7 +4,6 @@ use mathlib.Core.Bool.{not, ◌||◌}
 use mathlib.Core.List.{List, [], ◌∷◌, ◌++◌}
 use Prim.Native.Nat.{ℕ}
 use lib.IntN.{ℤ, pos}
-use borrow.Author.Rules.{rules}
 use Rattle.whole.specs.Bounds.{between}
 use Rattle.whole.specs.Refusals.{Refusal, ◌gives◌, first_code}
 use Rattle.whole.specs.Marks.{all_zero}

@@ -4,7 +4,6 @@ use mathlib.Core.Path.{◌≡◌, sym, ap, ap₂, ◌∙◌, subst}
 use mathlib.Core.List.{List}
 use lib.IntN.{ℤ}
 use mir.Facts.{to_z-of_z}
-use borrow.Author.Rules.{rules}
 use Rattle.rates.specs.Lent.{Tables, lent}
 use Rattle.book.specs.Changes.{traded}
 use Rattle.book.specs.AtAccount.{at_account}

@@ -2,7 +2,6 @@
 use mathlib.Core.Path.{◌≡◌, refl, sym, ap, ◌∙◌, subst}
 use Prim.Native.Nat.{ℕ}
 use mir.Facts.{to_z-of_z}
-use borrow.Author.Rules.{rules}
 use Rattle.whole.specs.Refusals.{first_code}
 use Rattle.book.specs.Choices.{trade_of}
 use Rattle.book.specs.declared.changes.Trade.{Trade}

@@ -7,7 +7,7 @@ use lib.IntN.{ℤ, nat_abs}
 use mir.Facts.{to_z-of_z}
 use mir.Syntax.{w64}
 use mir.Val.{SFits}
-use borrow.Author.Rules.{rules, sfits_of}
+use borrow.Author.Rules.{sfits_of}
 use Rattle.whole.proofs.Machine.{back}
 use Rattle.whole.proofs.Parameters.{codes, index}
 use Rattle.whole.proofs.Tests.{left, and_left}

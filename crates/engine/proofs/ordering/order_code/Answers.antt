@@ -4,7 +4,6 @@ use mathlib.Core.Bool.{not}
 use mathlib.Core.List.{List, [], ◌∷◌, ◌++◌}
 use Prim.Native.Nat.{ℕ}
 use lib.IntN.{ℤ}
-use borrow.Author.Rules.{rules}
 use Rattle.whole.specs.Refusals.{Refusal, ◌gives◌, first_code, out_of_bounds}
 use Rattle.whole.proofs.Refusals.{none, hit, miss, code, stops, follows}
 use Rattle.whole.proofs.Tests.{left, taken}
@@ -67,7 +66,6 @@ pub trade_fits-requires : goal.trade_fits-requires
 trade_fits-requires c = let p = passed c.before.before.before.before in record {
   bounded = subst Bounded (sym c.block_of.ensures.0) (bounded p.judgeable);
   ranges = subst TradeRanges (sym c.trade_of.ensures) (trade_ranges _ (ranges c.before.before));
-
 }
 
 past-checks : (c : After-trade_fits) {n : ℕ} → n ≡ first_code (nine c.before.before.before.before.before.before.before) → n ≡ first_code (first c.before.before.before.before.before.before.before ++ (checks c.before.before.before.before.before.before.before ++ nine c.before.before.before.before.before.before.before))

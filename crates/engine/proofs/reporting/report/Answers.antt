@@ -2,7 +2,6 @@
 use mathlib.Core.Path.{◌≡◌, sym, ap, ◌∙◌}
 use Prim.Native.Nat.{ℕ}
 use mir.Facts.{to_z-of_z}
-use borrow.Author.Rules.{rules}
 use Rattle.rates.specs.Lent.{Tables, lent}
 use Rattle.engine.specs.State.{state}
 use Rattle.engine.specs.Refused.{place_of, figures_at}

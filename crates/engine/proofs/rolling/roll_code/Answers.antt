@@ -4,7 +4,6 @@ use mathlib.Core.Path.{◌≡◌, sym, ap, ◌∙◌}
 use mathlib.Core.Bool.{not}
 use mathlib.Core.List.{List, [], ◌∷◌, ◌++◌}
 use lib.IntN.{ℤ}
-use borrow.Author.Rules.{rules}
 use borrow.Author.Tests.{not-false}
 use Rattle.whole.specs.Refusals.{Refusal, ◌gives◌, first_code}
 use Rattle.whole.proofs.Refusals.{none, hit, miss, code, none_holds, stops, follows}
@@ -62,11 +61,11 @@ block_of-requires c = there c.before.before
 
 pub roll_fits-requires : goal.roll_fits-requires
 roll_fits-requires c = record {
-      long = c.block_of.ensures.1;
-      in_bounds = ap in_bounds c.block_of.ensures.0
-          ∙ good_in_bounds (own c.before.before.before.before.before) (block_long c.args.book.now c.args.i (there c.before.before.before))
-          (member_good _ c.args.i c.args.i (there c.before.before.before).below (on_itself _ c.args.i) (not-false _ (none_holds (held c.before.before.before.before.before) tt (held-passed c.before) 0)));
-    }
+  long = c.block_of.ensures.1;
+  in_bounds = ap in_bounds c.block_of.ensures.0
+      ∙ good_in_bounds (own c.before.before.before.before.before) (block_long c.args.book.now c.args.i (there c.before.before.before))
+      (member_good _ c.args.i c.args.i (there c.before.before.before).below (on_itself _ c.args.i) (not-false _ (none_holds (held c.before.before.before.before.before) tt (held-passed c.before) 0)));
+}
 
 past-held : (c : After-roll_fits) {n : ℕ} → n ≡ first_code (nine c.before.before.before.before.before.before) → n ≡ first_code (gate c.before.before.before.before.before.before ++ (held c.before.before.before.before.before.before ++ nine c.before.before.before.before.before.before))
 past-held c e = follows (gate c.before.before.before.before.before.before) (held c.before.before.before.before.before.before ++ nine c.before.before.before.before.before.before) tt (gate-passed c.before.before.before.before) (follows (held c.before.before.before.before.before.before) (nine c.before.before.before.before.before.before) tt (held-passed c.before.before) e)

@@ -4,7 +4,6 @@ use mathlib.Core.List.{List}
 use native.Mathlib.Omega.{arith}
 use lib.IntN.{ℤ}
 use lib.ListN.{length}
-use borrow.Author.Rules.{rules}
 use Rattle.book.specs.Block.{holding_of}
 use Rattle.book.proofs.Blocks.{lent_holding}
 use Rattle.figures.proofs.joint.holding_of.Goals as goal

@@ -1,21 +1,15 @@
 -- `joint::joint_asset` meets its contract. The loop's invariant: x is the record over the members before k. Assumes nothing.
-use mathlib.Core.Path.{◌≡◌, refl, sym, ap, ◌∙◌, subst}
+use mathlib.Core.Path.{◌≡◌}
 use mathlib.Core.List.{List}
-use Prim.Native.Nat.{ℕ, ◌-◌, ◌≤◌, ◌<◌}
-use native.Mathlib.Omega.{arith}
+use Prim.Native.Nat.{ℕ, ◌-◌, ◌≤◌}
 use lib.IntN.{ℤ}
-use borrow.Author.Rules.{rules}
 use Rattle.book.specs.Block.{block_of, holding_of}
-use Rattle.book.specs.Ranges.{HoldingRanges}
 use Rattle.book.specs.Members.{member_at}
 use Rattle.book.specs.declared.members.Members.{Members}
 use Rattle.assets.specs.Collateral.{regime_of}
-use Rattle.assets.specs.Asset.{asset_under, asset_of}
-use Rattle.assets.specs.Joint.{with_record}
-use Rattle.assets.specs.Ranges.{AssetRanges}
+use Rattle.assets.specs.Asset.{asset_of}
 use Rattle.assets.specs.declared.record.Asset.{Asset}
-use Rattle.assets.proofs.Sizes.{asset_ranges}
-use Rattle.assets.proofs.Joint.{record_to, record_first, record_turn, record_ranges, ranges_wider}
+use Rattle.assets.proofs.Joint.{record_to}
 use Rattle.figures.proofs.joint.joint_asset.Given as goal
 
 -- the record of account j's asset, and that over the first k members

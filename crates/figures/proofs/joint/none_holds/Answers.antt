@@ -1,18 +1,15 @@
 -- `joint::none_holds` meets its contract. The loop's invariant: the members before k hold nothing of the asset. Assumes nothing.
 use mathlib.Core.Path.{◌≡◌, sym, ap, ◌∙◌}
-use mathlib.Core.Bool.{Bool, true}
 use mathlib.Core.List.{List}
-use Prim.Native.Nat.{ℕ, ◌-◌, ◌≤◌, ◌<◌}
+use Prim.Native.Nat.{ℕ, ◌<◌}
 use native.Mathlib.Omega.{arith}
 use lib.IntN.{ℤ}
 use lib.ListN.{length}
-use borrow.Author.Rules.{rules}
-use Rattle.whole.specs.Marks.{every, all_zero}
+use Rattle.whole.specs.Marks.{all_zero}
 use Rattle.whole.proofs.Every.{every_out, every_none, every_next, every_done}
 use Rattle.whole.proofs.Tests.{left, taken}
 use Rattle.book.specs.Block.{block_of, holding_of}
 use Rattle.book.specs.Members.{member_at}
-use Rattle.book.specs.declared.members.Members.{Members}
 use Rattle.figures.proofs.joint.none_holds.Goals as goal
 use Rattle.figures.proofs.joint.none_holds.Goals.{Start}
 

@@ -6,7 +6,6 @@ use Prim.Native.Nat.{◌+◌}
 use native.Mathlib.Omega.{arith}
 use lib.IntN.{ℤ, pos, ◌*ℤ◌}
 use mir.Facts.{to_z-of_z}
-use borrow.Author.Rules.{rules}
 use Rattle.whole.specs.Numbers.{min_ℤ, divided_down}
 use Rattle.whole.specs.Bounds.{◌upto◌}
 use Rattle.whole.specs.Parts.{number}

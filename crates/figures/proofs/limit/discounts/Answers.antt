@@ -1,9 +1,6 @@
 -- `limit::discounts` meets its contract: it sums the discounts of eight groups. Assumes nothing.
-use Prim.Native.Nat.{◌-◌}
 use native.Mathlib.Omega.{arith}
-use Rattle.whole.specs.Bounds.{◌upto◌}
-use Rattle.figures.specs.Limit.{discount_of}
-use Rattle.whole.proofs.Summing.{Summing, uptos, ends, sums}
+use Rattle.whole.proofs.Summing.{uptos, ends, sums}
 use Rattle.figures.proofs.limit.discounts.Goals as goal
 
 pub loop-g-init : goal.loop-g-init

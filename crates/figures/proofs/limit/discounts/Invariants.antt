@@ -1,9 +1,8 @@
 -- `limit::discounts` meets its contract: it sums the discounts of eight groups. Assumes nothing.
 use Prim.Native.Nat.{◌-◌}
-use native.Mathlib.Omega.{arith}
 use Rattle.whole.specs.Bounds.{◌upto◌}
 use Rattle.figures.specs.Limit.{discount_of}
-use Rattle.whole.proofs.Summing.{Summing, uptos, ends, sums}
+use Rattle.whole.proofs.Summing.{Summing}
 use Rattle.figures.proofs.limit.discounts.Given as goal
 
 abbrev pub invariant-loop-g : goal.invariant-loop-g

@@ -2,7 +2,6 @@
 use mathlib.Core.Path.{◌∙◌, ap}
 use lib.IntN.{ℤ, ◌+ℤ◌}
 use mir.Facts.{to_z-of_z}
-use borrow.Author.Rules.{rules}
 use Rattle.whole.proofs.Expressions.{Expression, var, ◌⊕◌, ◌⊖◌, value}
 use Rattle.whole.proofs.Machine.{Runs, need!, runs}
 use Rattle.whole.proofs.Rules.{ints}

@@ -2,7 +2,6 @@
 use mathlib.Core.Path.{sym, ◌∙◌, subst}
 use native.Mathlib.Omega.{arith}
 use mir.Facts.{to_z-of_z}
-use borrow.Author.Rules.{rules}
 use Rattle.whole.proofs.Rules.{ints}
 use Rattle.figures.specs.Limit.{figures_of}
 use Rattle.figures.specs.Joint.{joint_figures}

@@ -1,11 +1,10 @@
 -- `limit::joint_rubles` meets its contract: it sums the members' rubles. Assumes nothing.
 use mathlib.Core.Path.{◌≡◌, sym, ap, ◌∙◌, subst}
-use Prim.Native.Nat.{◌*◌, ◌-◌, ◌<◌, ◌^◌}
+use Prim.Native.Nat.{◌*◌, ◌<◌, ◌^◌}
 use native.Mathlib.Omega.{arith}
-use borrow.Author.Rules.{rules}
 use Rattle.whole.specs.Bounds.{◌within◌}
 use Rattle.whole.proofs.Bounds.{wider}
-use Rattle.whole.proofs.Summing.{Summing, withins, turn_fits, turn, ends, sums}
+use Rattle.whole.proofs.Summing.{withins, turn_fits, turn, ends, sums}
 use Rattle.book.specs.Block.{block_of}
 use Rattle.book.specs.Ranges.{BlockRanges}
 use Rattle.book.specs.Members.{member_at}

@@ -1,13 +1,8 @@
 -- `limit::joint_rubles` meets its contract: it sums the members' rubles. Assumes nothing.
-use mathlib.Core.Path.{◌≡◌, sym, ap, ◌∙◌, subst}
-use Prim.Native.Nat.{◌*◌, ◌-◌, ◌<◌, ◌^◌}
-use native.Mathlib.Omega.{arith}
-use borrow.Author.Rules.{rules}
+use Prim.Native.Nat.{◌-◌}
 use Rattle.whole.specs.Bounds.{◌within◌}
-use Rattle.whole.proofs.Bounds.{wider}
-use Rattle.whole.proofs.Summing.{Summing, withins, turn_fits, turn, ends, sums}
+use Rattle.whole.proofs.Summing.{Summing}
 use Rattle.book.specs.Block.{block_of}
-use Rattle.book.specs.Ranges.{BlockRanges}
 use Rattle.book.specs.Members.{member_at}
 use Rattle.figures.specs.Limit.{rubles_of}
 use Rattle.figures.proofs.limit.joint_rubles.Given as goal

@@ -1,6 +1,6 @@
 -- `limit::rubles_of` meets its contract: it sums the nine ruble numbers, which stand from place 1 on. Assumes nothing.
 use mathlib.Core.Path.{◌≡◌, sym, subst}
-use Prim.Native.Nat.{◌+◌, ◌-◌}
+use Prim.Native.Nat.{◌+◌}
 use native.Mathlib.Omega.{arith}
 use lib.IntN.{ℤ, pos}
 use Rattle.whole.specs.Bounds.{◌within◌}
@@ -8,7 +8,7 @@ use Rattle.whole.specs.Parts.{number}
 use Rattle.whole.proofs.Parts.{part_at}
 use Rattle.book.specs.Block.{ruble_numbers}
 use Rattle.figures.specs.Limit.{rubles_of}
-use Rattle.whole.proofs.Summing.{Summing, withins, ends, sums}
+use Rattle.whole.proofs.Summing.{withins, ends, sums}
 use Rattle.figures.proofs.limit.rubles_of.Goals as goal
 use Rattle.figures.proofs.limit.rubles_of.Goals.{In-loop-k}
 

@@ -1,14 +1,9 @@
 -- `limit::rubles_of` meets its contract: it sums the nine ruble numbers, which stand from place 1 on. Assumes nothing.
-use mathlib.Core.Path.{◌≡◌, sym, subst}
-use Prim.Native.Nat.{◌+◌, ◌-◌}
-use native.Mathlib.Omega.{arith}
-use lib.IntN.{ℤ, pos}
+use Prim.Native.Nat.{◌-◌}
 use Rattle.whole.specs.Bounds.{◌within◌}
 use Rattle.whole.specs.Parts.{number}
-use Rattle.whole.proofs.Parts.{part_at}
 use Rattle.book.specs.Block.{ruble_numbers}
-use Rattle.figures.specs.Limit.{rubles_of}
-use Rattle.whole.proofs.Summing.{Summing, withins, ends, sums}
+use Rattle.whole.proofs.Summing.{Summing}
 use Rattle.figures.proofs.limit.rubles_of.Given as goal
 
 abbrev pub invariant-loop-k : goal.invariant-loop-k

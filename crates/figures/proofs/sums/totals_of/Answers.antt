@@ -1,12 +1,12 @@
 -- `sums::totals_of` meets its contract: before asset a the sums are those over the assets passed. Assumes nothing.
 use mathlib.Core.Path.{◌≡◌, refl, sym, ap, ◌∙◌, subst}
 use mathlib.Core.List.{List}
-use Prim.Native.Nat.{ℕ, ◌+◌, ◌-◌, ◌≤◌, ◌<◌, ◌^◌}
+use Prim.Native.Nat.{ℕ, ◌+◌, ◌<◌, ◌^◌}
 use native.Mathlib.Omega.{arith}
 use lib.IntN.{ℤ, ◌+ℤ◌}
 use lib.ListN.{set}
 use mir.Syntax.{w64}
-use mir.Val.{SFits, to_z, of_z}
+use mir.Val.{SFits, to_z}
 use mir.Facts.{to_z-of_z}
 use borrow.Author.Rules.{rules}
 use Rattle.whole.specs.Bounds.{◌within◌, ◌upto◌}
@@ -19,7 +19,7 @@ use Rattle.whole.proofs.Machine.{back, need!, runs}
 use Rattle.whole.proofs.Summing.{withins}
 use Rattle.whole.proofs.Every.{every_at}
 use Rattle.whole.proofs.Tests.{passed}
-use Rattle.rates.specs.Lent.{Tables, lent}
+use Rattle.rates.specs.Lent.{lent}
 use Rattle.assets.specs.Ranges.{PartRanges}
 use Rattle.assets.specs.declared.parts.Part.{Part}
 use Rattle.book.specs.Changes.{added}

@@ -1,6 +1,5 @@
 -- `rates::cover::highest_rate` meets its contract: the rate that is read is the highest. Assumes nothing.
 use mir.Facts.{to_z-of_z}
-use borrow.Author.Rules.{rules}
 use Rattle.whole.proofs.InRange.{upto_back}
 use Rattle.rates.specs.Row.{highest_rate}
 use Rattle.rates.proofs.cover.highest_rate.Goals as goal

@@ -4,7 +4,6 @@ use mathlib.Core.Path.{sym, ap, ap₂, ◌∙◌}
 use mathlib.Core.Bool.{not}
 use lib.IntN.{ℤ, ◌-ℤ◌, ◌*ℤ◌}
 use lib.Signed.{le_z}
-use borrow.Author.Rules.{rules}
 use Rattle.whole.proofs.Tests.{passed, failed, first_out, and_then}
 use Rattle.rates.specs.Units.{the_whole}
 use Rattle.rates.specs.Row.{price, level}

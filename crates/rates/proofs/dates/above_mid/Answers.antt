@@ -1,7 +1,7 @@
 -- `rates::dates::above_mid` meets its contract: the mid is near 0, so mid + 10^7 fits.
 -- Assumes nothing.
 use mathlib.Core.Path.{◌∙◌}
-use borrow.Author.Rules.{rules, sfits_of}
+use borrow.Author.Rules.{sfits_of}
 use Rattle.rates.proofs.dates.Comparisons.{highest_fits, above_back}
 use Rattle.rates.proofs.dates.above_mid.Goals as goal
 

@@ -1,7 +1,7 @@
 -- `rates::dates::level_right` meets its contract: the mid lies from −price to 10^7 − price exactly where price + mid lies from 0 to 10^7.
 -- Assumes nothing.
 use mathlib.Core.Path.{◌∙◌}
-use borrow.Author.Rules.{rules, sfits_of}
+use borrow.Author.Rules.{sfits_of}
 use Rattle.rates.proofs.dates.Comparisons.{from_fits, to_fits, level_back}
 use Rattle.rates.proofs.dates.level_right.Goals as goal
 

@@ -3,7 +3,6 @@
 use mathlib.Core.Path.{sym, ap, ◌∙◌}
 use mathlib.Core.Bool.{not}
 use native.Mathlib.Omega.{arith}
-use borrow.Author.Rules.{rules}
 use Rattle.rates.proofs.in_force.Listed.{no_such_asset, no_row, listed_by_kind}
 use Rattle.rates.proofs.in_force.is_listed.Goals as goal
 

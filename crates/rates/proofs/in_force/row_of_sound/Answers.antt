@@ -1,7 +1,6 @@
 -- `rates::in_force::row_of_sound` meets its contract: the first number of the own row is its kind, and that row is absent exactly where it has none.
 -- Assumes nothing.
 use mathlib.Core.Path.{◌≡◌, sym, ap, ◌∙◌}
-use borrow.Author.Rules.{rules}
 use Rattle.whole.specs.Bounds.{is_zero}
 use Rattle.whole.proofs.Parts.{cut}
 use Rattle.rates.specs.Tables.{row_of, absent}

@@ -7,7 +7,6 @@ use native.Mathlib.Omega.{arith}
 use lib.IntN.{ℤ, pos}
 use lib.ListN.{length, take, drop}
 use lib.Seq.{drop-cons}
-use borrow.Author.Rules.{rules}
 use Rattle.whole.specs.Bounds.{is_zero}
 use Rattle.whole.specs.Marks.{first_false, place_from}
 use Rattle.whole.proofs.Chains.{first_on, first_stop}

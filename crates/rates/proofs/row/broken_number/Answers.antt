@@ -3,7 +3,6 @@
 use mathlib.Core.Path.{ap, ◌∙◌}
 use mathlib.Core.List.{List, map}
 use lib.IntN.{ℤ}
-use borrow.Author.Rules.{rules}
 use Rattle.whole.specs.Bounds.{is_zero}
 use Rattle.whole.specs.Marks.{first_false}
 use Rattle.whole.proofs.Tests.{passed, failed}

@@ -1,5 +1,4 @@
 -- `rates::row::broken_rate` meets its contract: its tests are the marks, in their order. Each rise rate has two. Assumes nothing.
-use borrow.Author.Rules.{rules}
 use Rattle.whole.proofs.Chains.{chain}
 use Rattle.rates.specs.Rules.{rate_marks}
 use Rattle.rates.proofs.row.broken_rate.Goals as goal

@@ -1,5 +1,4 @@
 -- `rates::row::broken_term` meets its contract: its tests are the marks, in their order. Assumes nothing.
-use borrow.Author.Rules.{rules}
 use Rattle.whole.proofs.Chains.{chain}
 use Rattle.rates.specs.Rules.{term_marks}
 use Rattle.rates.proofs.row.broken_term.Goals as goal

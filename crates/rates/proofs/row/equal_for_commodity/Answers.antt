@@ -1,7 +1,7 @@
 -- `rates::row::equal_for_commodity` meets its contract: equality is asked where the kind is 3.
 -- Assumes nothing.
 use mathlib.Core.Path.{◌∙◌}
-use borrow.Author.Rules.{rules, sfits_of}
+use borrow.Author.Rules.{sfits_of}
 use Rattle.whole.proofs.Bounds.{equal_back}
 use Rattle.whole.proofs.Tests.{left, taken, where_so, where_not}
 use Rattle.rates.proofs.row.equal_for_commodity.Goals as goal

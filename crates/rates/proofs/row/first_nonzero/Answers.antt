@@ -2,7 +2,6 @@
 use mathlib.Core.Path.{sym, ◌∙◌}
 use native.Mathlib.Omega.{arith}
 use lib.ListN.{length-map}
-use borrow.Author.Rules.{rules}
 use Rattle.whole.specs.Bounds.{is_zero}
 use Rattle.whole.specs.Marks.{all_zero}
 use Rattle.whole.proofs.Tests.{passed}

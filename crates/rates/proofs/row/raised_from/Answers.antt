@@ -2,7 +2,7 @@
 -- Assumes nothing.
 use mathlib.Core.Path.{◌∙◌}
 use mir.Facts.{sfits_lit}
-use borrow.Author.Rules.{rules, sfits_of}
+use borrow.Author.Rules.{sfits_of}
 use Rattle.rates.specs.Units.{the_whole}
 use Rattle.whole.proofs.Bounds.{between_back}
 use Rattle.rates.proofs.row.raised_from.Goals as goal

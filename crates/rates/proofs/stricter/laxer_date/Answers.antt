@@ -1,5 +1,4 @@
 -- `rates::stricter::laxer_date` meets its contract: its tests are the marks, in their order. Assumes nothing.
-use borrow.Author.Rules.{rules}
 use Rattle.whole.proofs.Chains.{chain}
 use Rattle.rates.specs.Stricter.{stricter_date}
 use Rattle.rates.proofs.stricter.laxer_date.Goals as goal

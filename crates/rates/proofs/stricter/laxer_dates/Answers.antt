@@ -1,11 +1,6 @@
 -- `rates::stricter::laxer_dates` meets its contract: the dates before d were passed. Assumes nothing.
 use mathlib.Core.Path.{refl}
-use Prim.Native.Nat.{◌-◌}
-use borrow.Author.Rules.{rules}
-use Rattle.whole.proofs.Marks.{Passed, none_passed, piece_passed, found_in, all_passed}
-use Rattle.rates.specs.Units.{dates}
-use Rattle.rates.specs.Row.{dates_at}
-use Rattle.rates.specs.Stricter.{stricter_date}
+use Rattle.whole.proofs.Marks.{none_passed, piece_passed, found_in, all_passed}
 use Rattle.rates.proofs.Counts.{stricter_date_count}
 use Rattle.rates.proofs.stricter.laxer_dates.Goals as goal
 

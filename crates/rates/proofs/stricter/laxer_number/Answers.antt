@@ -4,7 +4,6 @@ use mathlib.Core.Path.{◌≡◌, refl, ◌∙◌}
 use mathlib.Core.Bool.{Bool, true}
 use mathlib.Core.List.{List, ◌++◌}
 use lib.ListN.{replicate}
-use borrow.Author.Rules.{rules}
 use Rattle.whole.specs.Marks.{first_false, place_from}
 use Rattle.whole.proofs.Marks.{from_zero, stops_in, goes_past}
 use Rattle.rates.specs.Row.{rates_at, limits_at, dates_at}

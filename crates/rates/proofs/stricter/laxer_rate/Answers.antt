@@ -1,5 +1,4 @@
 -- `rates::stricter::laxer_rate` meets its contract: its tests are the marks, in their order. Assumes nothing.
-use borrow.Author.Rules.{rules}
 use Rattle.rates.specs.Stricter.{stricter_rates}
 use Rattle.rates.proofs.stricter.Unasked.{comparisons}
 use Rattle.rates.proofs.stricter.laxer_rate.Goals as goal

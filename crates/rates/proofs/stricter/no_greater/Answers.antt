@@ -1,6 +1,6 @@
 -- `rates::stricter::no_greater` meets its contract: both numbers fit, so they are read back as they are. Assumes nothing.
 use lib.Signed.{le_z}
-use borrow.Author.Rules.{rules, sfits_of}
+use borrow.Author.Rules.{sfits_of}
 use Rattle.whole.specs.Parts.{number}
 use Rattle.whole.proofs.Machine.{clean₂}
 use Rattle.rates.proofs.stricter.no_greater.Goals as goal

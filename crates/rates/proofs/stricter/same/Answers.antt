@@ -1,6 +1,6 @@
 -- `rates::stricter::same` meets its contract: the clearing row's number fits, so it is read back as it is. Assumes nothing.
 use mathlib.Core.Path.{◌∙◌}
-use borrow.Author.Rules.{rules, sfits_of}
+use borrow.Author.Rules.{sfits_of}
 use Rattle.whole.proofs.Bounds.{equal_back}
 use Rattle.rates.proofs.stricter.same.Goals as goal
 

@@ -5,12 +5,11 @@ use Prim.Native.Nat.{ℕ, ◌+◌, ◌*◌, ◌-◌}
 use native.Mathlib.Omega.{arith}
 use lib.IntN.{ℤ}
 use lib.ListN.{length, take, drop}
-use borrow.Author.Rules.{rules}
 use Rattle.whole.specs.Marks.{first_false}
 use Rattle.whole.proofs.Parts.{cut}
 use Rattle.whole.proofs.Tests.{passed}
-use Rattle.whole.proofs.Marks.{none_false, Passed, none_passed, piece_passed, found_in, all_passed}
-use Rattle.rates.specs.Units.{assets, row_length}
+use Rattle.whole.proofs.Marks.{none_false, none_passed, piece_passed, found_in, all_passed}
+use Rattle.rates.specs.Units.{row_length}
 use Rattle.rates.specs.Rules.{row_marks}
 use Rattle.rates.specs.Tables.{row_of, absent, clearing_marks}
 use Rattle.rates.proofs.Counts.{row_long, clearing_row_count}

@@ -1,7 +1,6 @@
 -- `rates::tables::broken_own_row` meets its contract: an absent row breaks nothing, a present one its number 0 or the rules of a row.
 -- Assumes nothing.
 use mathlib.Core.Path.{refl}
-use borrow.Author.Rules.{rules}
 use Rattle.whole.specs.Marks.{first_false}
 use Rattle.rates.specs.Tables.{own_row_marks}
 use Rattle.whole.proofs.Tests.{left, taken, passed, failed}

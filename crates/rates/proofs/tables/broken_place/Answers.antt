@@ -4,7 +4,6 @@ use mathlib.Core.Path.{◌≡◌, ap, ◌∙◌}
 use mathlib.Core.Bool.{Bool}
 use mathlib.Core.List.{List, ◌++◌}
 use Prim.Native.Nat.{ℕ, ◌+◌}
-use borrow.Author.Rules.{rules}
 use Rattle.whole.specs.Marks.{first_false, place_from, pieces}
 use Rattle.whole.proofs.Marks.{from_zero, stops_in, goes_past}
 use Rattle.rates.specs.Units.{assets, table_length}

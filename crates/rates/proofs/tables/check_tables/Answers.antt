@@ -3,7 +3,6 @@
 -- Assumes nothing.
 use mathlib.Core.Path.{◌≡◌}
 use mathlib.Core.Bool.{true}
-use borrow.Author.Rules.{rules}
 use Rattle.whole.proofs.Tests.{left, taken}
 use Rattle.rates.specs.Lent.{lent}
 use Rattle.rates.specs.Tables.{lengths_right}

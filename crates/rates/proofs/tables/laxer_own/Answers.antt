@@ -1,15 +1,14 @@
 -- `rates::tables::laxer_own` meets its contract: the rows before row a were passed. Assumes nothing.
 use mathlib.Core.Path.{◌≡◌, refl, ap, ap₂, ◌∙◌}
 use mathlib.Core.List.{List}
-use Prim.Native.Nat.{◌*◌, ◌-◌}
+use Prim.Native.Nat.{◌*◌}
 use native.Mathlib.Omega.{arith}
 use lib.IntN.{ℤ}
 use lib.ListN.{length}
-use borrow.Author.Rules.{rules}
 use Rattle.whole.specs.Marks.{first_false, all_true}
 use Rattle.whole.proofs.Parts.{cut}
-use Rattle.whole.proofs.Marks.{all_piece, Passed, none_passed, piece_passed, found_in, all_passed}
-use Rattle.rates.specs.Units.{assets, row_length, table_length}
+use Rattle.whole.proofs.Marks.{all_piece, none_passed, piece_passed, found_in, all_passed}
+use Rattle.rates.specs.Units.{assets}
 use Rattle.rates.specs.Tables.{own_row_marks, own_marks, stricter_own_row, stricter_at}
 use Rattle.rates.proofs.Counts.{row_long, stricter_at_count}
 use Rattle.rates.proofs.tables.laxer_own.Goals as goal

@@ -1,6 +1,5 @@
 -- `rates::tables::laxer_own_row` meets its contract: a row that keeps its rules is absent exactly where it has no kind. Assumes nothing.
 use mathlib.Core.Path.{refl, ◌∙◌}
-use borrow.Author.Rules.{rules}
 use Rattle.whole.specs.Marks.{first_false}
 use Rattle.whole.proofs.Tests.{passed, failed}
 use Rattle.rates.specs.Tables.{stricter_own_row}

@@ -5,14 +5,14 @@ use mir.Val.{Fits, SFits}
 use mir.Facts.{to_z-of_z}
 use Rattle.session_lines.specs.Session.{terms_of}
 use Rattle.session_lines.proofs.calls.Bytes.{byte_is}
-use Rattle.session_lines.proofs.calls.terms_of.Statement.{statement}
-use Rattle.session_lines.proofs.calls.terms_of.Tie as tie
+use Rattle.session_lines.proofs.calls.terms_of.Goals as goal
+use Rattle.session_lines.proofs.calls.terms_of.Goals.{After-struct_told-1}
 
-fits : (c : tie.After-struct-told) → let l = c.before.before.before.before.args.line in
+fits : (c : After-struct_told-1) → let l = c.args.line in
     Fits w8 l.asset × Fits w8 l.date × Fits w8 l.side × SFits w64 l.quantity × SFits w64 l.money
 fits c = search rules
 
-returns : tie.Need-returns
+pub returns : goal.returns
 unfolding terms_of
 returns c = let f = fits c in λ i. record {
   asset = byte_is f.0 i;
@@ -21,6 +21,3 @@ returns c = let f = fits c in λ i. record {
   quantity = to_z-of_z f.3 i;
   money = to_z-of_z f.4 i;
 }
-
-pub terms-of-spec : {M : Type 1} → statement M
-terms-of-spec = tie.close (tie.spec (λ c. search rules) (λ c. search rules) (λ c. search rules) returns)

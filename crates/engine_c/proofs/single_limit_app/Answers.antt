@@ -4,15 +4,13 @@ use Prim.Native.Nat.{ℕ}
 use lib.IntN.{ℤ}
 use lib.Ieee.{Float}
 use mir.Facts.{to_z-of_z}
-use borrow.Author.Rules.{rules}
 use Rattle.rates.specs.Lent.{lent}
 use Rattle.engine.specs.State.{state}
 use Rattle.engine.specs.Refused.{place_of}
 use Rattle.app_feed.specs.Gauge.{gauge_number, gauge_shown}
 use Rattle.app_feed.specs.Feed.{Sent, sent_of}
 use Rattle.engine_c.specs.Face.{Screen, screen_of}
-use Rattle.engine_c.proofs.single_limit_app.Statement.{statement}
-use Rattle.engine_c.proofs.single_limit_app.Tie as tie
+use Rattle.engine_c.proofs.single_limit_app.Goals as goal
 
 -- what is sent, as the screen takes it
 screened : (sent meant : Sent) {number : ℕ} {shown : Float} → sent ≡ meant → number ≡ gauge_number sent.fed.gauge → shown ≡ gauge_shown sent.fed.gauge
@@ -22,16 +20,11 @@ screened sent meant e n x =
     (λ i. record { code = sent.fed.code; bits = sent.bits; gauge = n i; shown = x i })
     ∙ ap (λ (s : Sent). record { code = s.fed.code; bits = s.bits; gauge = gauge_number s.fed.gauge; shown = gauge_shown s.fed.gauge }) e
 
-returns : tie.Need-returns
+pub returns : goal.returns
 unfolding screen_of
 returns c =
-    let fed = c.before.before.before.before in
-    let s = fed.before.before.before in
-    let a = s.args in
+    let a = c.args in
     let tables = lent a.clearing a.own a.groups in
-    screened _ (sent_of tables (place_of a.account) (state a.book) a.bits.now)
-    (fed.feed.ensures ∙ ap (λ (z : ℤ). sent_of tables (place_of z) (state a.book) a.bits.now) (to_z-of_z s.ranges.account))
-    c.before.number.ensures c.shown.ensures
-
-pub single-limit-app-spec : {M : Type 1} → statement M
-single-limit-app-spec = tie.close (tie.spec (λ c κs. search rules) (λ c κs. search rules) (λ c κs. search rules) (λ c. search rules) returns)
+    screened _ (sent_of tables (place_of a.account) (state a.book.now) a.bits.now)
+    (c.feed-fed.ensures ∙ ap (λ (z : ℤ). sent_of tables (place_of z) (state a.book.now) a.bits.now) (to_z-of_z c.ranges.account))
+    c.number.ensures c.shown.ensures
