@@ -3,8 +3,10 @@ pub mod Five
 pub mod Patterns
 pub mod Exact
 pub mod Reported
+pub mod Gauges
 pub mod Sending
 pub mod Nearest
 pub mod Share
+pub mod Refused
 pub mod Promised
 pub mod Examples

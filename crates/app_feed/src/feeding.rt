@@ -33,6 +33,7 @@ fn refused(code: u8) -> Fed
 
 // Feed an account's report to the app; unless refused, the floats' bits go to the five lent numbers. The figures of one block are always below 2^53
 // in size; those of a settlement code need not be, so they are looked at.
+#[tactic(auto, using(crate::proofs::Refused::refuses))]
 pub fn feed<'a>(
     book: &[i64],
     clearing: &'a [i64],

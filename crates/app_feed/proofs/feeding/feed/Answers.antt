@@ -6,17 +6,14 @@ use Prim.Native.Nat.{ℕ}
 use native.Mathlib.Omega.{arith}
 use lib.IntN.{ℤ}
 use lib.ListN.{length}
-use mir.Facts.{to_z-of_z}
-use mir.Syntax.{w64}
-use mir.Val.{SFits}
+use borrow.Author.Rules.{rules}
 use Rattle.whole.specs.Refusals.{◌gives◌, first_code, out_of_bounds}
-use Rattle.whole.proofs.Machine.{back}
 use Rattle.whole.proofs.Refusals.{Code, none, hit, miss}
 use Rattle.whole.proofs.Tests.{passed, failed, denied, refuted}
 use Rattle.rates.specs.Lent.{Tables, lent}
 use Rattle.figures.specs.Ranges.{Below2^53}
 use Rattle.engine.specs.State.{State, state}
-use Rattle.engine.specs.Refused.{place_of, report_refusals, figures_at}
+use Rattle.engine.specs.Refused.{place_of, figures_at}
 use Rattle.engine.specs.Report.{report_of}
 use Rattle.engine.specs.declared.reporting.Reported.{Reported}
 use Rattle.engine.proofs.Reports.{figures_reported}
@@ -25,20 +22,12 @@ use Rattle.app_feed.specs.Gauge.{gauge_of, Balanced}
 use Rattle.app_feed.specs.Feed.{feed_refusals, fed_of}
 use Rattle.app_feed.proofs.Exact.{all_have_bits}
 use Rattle.app_feed.proofs.Reported.{below_tested, report_balanced}
-use Rattle.app_feed.proofs.Sending.{count_wrong, report_wrong, report_right, sends_nothing, sends}
+use Rattle.app_feed.proofs.Refused.{told, code_is}
+use Rattle.app_feed.proofs.Sending.{count_wrong, report_right, sends_nothing, sends}
 use Rattle.app_feed.proofs.feeding.feed.Goals as goal
 
 -- ---- the report of an account of what is lent
 module _ (lends : Tables) (account : ℤ) (kept : State) where
-  -- the account is read back as it was
-  told : {r : Reported} → SFits w64 account → r ≡ report_of lends (place_of (back account)) kept → r ≡ report_of lends (place_of account) kept
-  told f e = e ∙ ap (λ (z : ℤ). report_of lends (place_of z) kept) (to_z-of_z f)
-
-  -- its code is its refusals'
-  code_is : {r : Reported} → r ≡ report_of lends (place_of account) kept → r.code ≡ first_code (report_refusals lends (place_of account) kept)
-  unfolding report_of
-  code_is e = ap (λ (r : Reported). r.code) e
-
   -- its figures, where it answers 0
   module _ {r : Reported} (e : r ≡ report_of lends (place_of account) kept) (done : r.code ≡ 0) where
     answered : (report_of lends (place_of account) kept).code ≡ 0
@@ -60,7 +49,7 @@ module _ (lends : Tables) (account : ℤ) (kept : State) where
     -- the whole code, from the test
     after-size : (numbers : List ℕ) {n : ℕ} → length numbers ≡ 5 → Code (not (all_below (figures_at lends (place_of account) kept)) gives out_of_bounds ∷ []) n
         → n ≡ first_code (feed_refusals lends (place_of account) kept (length numbers))
-    after-size numbers long p = report_right lends (place_of account) kept numbers long (sym (code_is e) ∙ done) p
+    after-size numbers long p = report_right lends (place_of account) kept numbers long (sym (code_is lends account kept e) ∙ done) p
 
 pub returns-then-bits-ne-COUNT : goal.returns-then-bits-ne-COUNT
 returns-then-bits-ne-COUNT c =
@@ -70,23 +59,13 @@ returns-then-bits-ne-COUNT c =
     let bits = c.args.bits.now in
     sends_nothing tables i s bits (count_wrong tables i s bits c.if-bits-ne-COUNT.true) (λ z. absurd (omega arith)) c.refused.ensures
 
-pub returns-then-code-ne-DONE : goal.returns-then-code-ne-DONE
-returns-then-code-ne-DONE c =
-    let tables = lent c.args.clearing c.args.own c.args.groups in
-    let i = place_of c.args.account in
-    let s = state c.args.book.now in
-    let bits = c.args.bits.now in
-    let e = told tables c.args.account s c.ranges.account c.report-reported.ensures in
-    sends_nothing tables i s bits (report_wrong tables i s bits c.if-bits-ne-COUNT.false (code_is tables c.args.account s e) c.if-code-ne-DONE.true) c.if-code-ne-DONE.true
-    c.refused-then-code-ne-DONE.ensures
-
 pub returns-then-not-all_below : goal.returns-then-not-all_below
 returns-then-not-all_below c =
     let tables = lent c.args.clearing c.args.own c.args.groups in
     let s = state c.args.book.now in
     let bits = c.args.bits.now in
     let e = told tables c.args.account s c.ranges.account c.report-reported.ensures in
-    let done = c.if-code-ne-DONE.false in
+    let done : c.report-reported.result.code ≡ 0 = search rules in
     let above = refuted (failed (asked tables c.args.account s e done c.all_below.ensures) c.if-not-all_below.true) in
     sends_nothing tables (place_of c.args.account) s bits (after-size tables c.args.account s e done bits c.if-bits-ne-COUNT.false (hit above)) (λ z. absurd (omega arith))
     c.refused-then-not-all_below.ensures
@@ -96,14 +75,16 @@ floats_of-figures-requires c =
     let tables = lent c.args.clearing c.args.own c.args.groups in
     let s = state c.args.book.now in
     let e = told tables c.args.account s c.ranges.account c.report-reported.ensures in
-    below tables c.args.account s e c.if-code-ne-DONE.false c.all_below.ensures c.if-not-all_below.false
+    let done : c.report-reported.result.code ≡ 0 = search rules in
+    below tables c.args.account s e done c.all_below.ensures c.if-not-all_below.false
 
 pub put_bits-requires : goal.put_bits-requires
 put_bits-requires c =
     let tables = lent c.args.clearing c.args.own c.args.groups in
     let s = state c.args.book.now in
     let e = told tables c.args.account s c.ranges.account c.report-reported.ensures in
-    let small = below tables c.args.account s e c.if-code-ne-DONE.false c.all_below.ensures c.if-not-all_below.false in
+    let done : c.report-reported.result.code ≡ 0 = search rules in
+    let small = below tables c.args.account s e done c.all_below.ensures c.if-not-all_below.false in
     (subst AllHaveBits (sym c.floats_of-figures.ensures) (all_have_bits _ small), c.if-bits-ne-COUNT.false)
 
 pub gauge_of-requires : goal.gauge_of-requires
@@ -111,7 +92,7 @@ gauge_of-requires c =
     let tables = lent c.args.clearing c.args.own c.args.groups in
     let s = state c.args.book.now in
     let e = told tables c.args.account s c.ranges.account c.report-reported.ensures in
-    let done = c.if-code-ne-DONE.false in
+    let done : c.report-reported.result.code ≡ 0 = search rules in
     (below tables c.args.account s e done c.all_below.ensures c.if-not-all_below.false, balanced tables c.args.account s e done)
 
 pub returns : goal.returns
@@ -121,7 +102,7 @@ returns c =
     let s = state c.args.book.now in
     let bits = c.args.bits.now in
     let e = told tables c.args.account s c.ranges.account c.report-reported.ensures in
-    let done = c.if-code-ne-DONE.false in
+    let done : c.report-reported.result.code ≡ 0 = search rules in
     let within = denied (passed (asked tables c.args.account s e done c.all_below.ensures) c.if-not-all_below.false) in
     let f = found tables c.args.account s e done in
     sends tables (place_of c.args.account) s bits (sym (after-size tables c.args.account s e done bits c.if-bits-ne-COUNT.false (miss within none)))
