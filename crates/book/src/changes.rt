@@ -135,6 +135,7 @@ fn most_of(asset: usize) -> i64
 }
 
 // The least that a move may leave there: 0 for a withdrawal, else −most.
+#[tactic(auto, unfolding(crate::specs::Changes::least_after))]
 fn least_after(amount: i64, most: i64) -> i64
     requires { most upto most_rubles }
     ensures { (result ≡ least_after amount most) × (result within most_rubles) }
