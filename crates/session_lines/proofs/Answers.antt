@@ -23,31 +23,31 @@ use Rattle.session_lines.specs.HoweverCut.{text}
 short : (code : ℕ) (figures : List ℤ) → length figures ≤ 5 → length (answer_line code figures) ≤ longest_answer
 short code figures h = omega (arith, answer_length code figures)
 
-pub answer-fits : (m : Memory) (frame : Frame) → length (answered m frame).line ≤ longest_answer
+pub answer_fits : (m : Memory) (frame : Frame) → length (answered m frame).line ≤ longest_answer
 unfolding answered
-answer-fits m (Parameter place number) = short _ [] (omega arith)
-answer-fits m (Open account kind code) = short _ [] (omega arith)
-answer-fits m (Move l) = short _ [] (omega arith)
-answer-fits m (Order l) = short _ [] (omega arith)
-answer-fits m (Roll account) = short _ [] (omega arith)
-answer-fits m (Report account) = short _ _ (omega arith)
-answer-fits m Malformed = short _ [] (omega arith)
+answer_fits m (Parameter place number) = short _ [] (omega arith)
+answer_fits m (Open account kind code) = short _ [] (omega arith)
+answer_fits m (Move l) = short _ [] (omega arith)
+answer_fits m (Order l) = short _ [] (omega arith)
+answer_fits m (Roll account) = short _ [] (omega arith)
+answer_fits m (Report account) = short _ _ (omega arith)
+answer_fits m Malformed = short _ [] (omega arith)
 
 -- what is written where there is room stands after what stood in the buffer
-pub text-written : (out : Written) (line : List ℕ) → out.at + length line ≤ length out.bytes
+pub text_written : (out : Written) (line : List ℕ) → out.at + length line ≤ length out.bytes
     → text (written out.bytes out.at line) ≡ text out ++ line
 unfolding written put
-text-written out line room =
+text_written out line room =
     rw (le-leb (out.at + length line) (length out.bytes) room)
     (ap (take (out.at + length line)) (sym (append_assoc (take out.at out.bytes) line _))
     ∙ take_at (take out.at out.bytes ++ line) _ (out.at + length line)
     (length-append (take out.at out.bytes) line ∙ rw (length-take-le out.at out.bytes (omega arith)) refl))
 
 -- what is written stays inside the buffer
-pub written-inside : {w : Written} (out : Written) (line : List ℕ) → w ≡ written out.bytes out.at line → out.at ≤ length out.bytes
+pub written_inside : {w : Written} (out : Written) (line : List ℕ) → w ≡ written out.bytes out.at line → out.at ≤ length out.bytes
     → w.at ≤ length w.bytes
 unfolding written
-written-inside out line e h = subst (λ (w : Written). w.at ≤ length w.bytes) (sym e) (by (leb (out.at + length line) (length out.bytes)) refl)
+written_inside out line e h = subst (λ (w : Written). w.at ≤ length w.bytes) (sym e) (by (leb (out.at + length line) (length out.bytes)) refl)
   where
     by : (t : Bool) → leb (out.at + length line) (length out.bytes) ≡ t
         → let w = cond {A = Written} t (record { bytes = put out.at (length line) out.bytes line; at = out.at + length line }) out in

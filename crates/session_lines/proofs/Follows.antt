@@ -12,7 +12,7 @@ use Rattle.session_lines.specs.Session.{answered, newline, lines_from, answers}
 use Rattle.session_lines.specs.Stream.{longest_answer, Begun, grown, frame_held, Fed, taken, closed, has_room, fed}
 use Rattle.session_lines.specs.HoweverCut.{text}
 use Rattle.session_lines.proofs.stream.Held.{cut_line, grown_cut, frame_cut}
-use Rattle.session_lines.proofs.Answers.{answer-fits, text-written, written-inside}
+use Rattle.session_lines.proofs.Answers.{answer_fits, text_written, written_inside}
 
 -- what came of `count` bytes of a piece: a line that has begun, answers, and the same session for whatever input comes next
 pub record Follows (line : List ℕ) (f : Fed) (piece : List ℕ) (r : Fed) : Type 0 where
@@ -58,7 +58,7 @@ ends {line} {f} e n room p =
     let frame = frame_held f.stream.line in
     let whole : frame ≡ line_frame line = ap frame_held e ∙ frame_cut line in
     let a = answered f.stream.memory frame in
-    let short = answer-fits f.stream.memory frame in
+    let short = answer_fits f.stream.memory frame in
     record {
       count = suc p.count;
       used = omega (arith, p.used);
@@ -66,7 +66,7 @@ ends {line} {f} e n room p =
       held = p.held;
       said = a.line ++ p.said;
       wrote =
-          p.wrote ∙ ap (λ (l : List ℕ). l ++ p.said) (text-written f.out a.line (omega arith)) ∙ append_assoc (text f.out) a.line p.said;
+          p.wrote ∙ ap (λ (l : List ℕ). l ++ p.said) (text_written f.out a.line (omega arith)) ∙ append_assoc (text f.out) a.line p.said;
       same = λ more. rw (n, sym whole) (ap (λ (l : List ℕ). a.line ++ l) (p.same more) ∙ sym (append_assoc a.line p.said _));
     }
 
@@ -74,7 +74,7 @@ pub follows : (piece line : List ℕ) (f : Fed) → f.stream.line ≡ cut_line l
 unfolding fed cut_line
 follows [] line f e h = stays line f [] e
 follows (b ∷ piece) line f e h =
-    by (eqb b newline) refl (has_room f.out) refl (follows piece [] (closed f) refl (written-inside f.out _ refl h))
+    by (eqb b newline) refl (has_room f.out) refl (follows piece [] (closed f) refl (written_inside f.out _ refl h))
     (follows piece (line ++ (b ∷ [])) (taken f b) (ap (λ (l : Begun). grown l b) e ∙ grown_cut line b) h)
   where
     by : (ended : Bool) → eqb b newline ≡ ended → (room : Bool) → has_room f.out ≡ room → Follows [] (closed f) piece (fed (closed f) piece)

@@ -14,7 +14,7 @@ use Rattle.session_lines.specs.Stream.{longest_answer, is_blank, frame_held, Str
 use Rattle.session_lines.specs.HoweverCut.{Feed, text, SoFar, so_far, fresh, HoweverCut, EndWaits}
 use Rattle.session_lines.proofs.Follows.{Follows, follows}
 use Rattle.session_lines.proofs.stream.Held.{cut_line, frame_cut, blank_cut}
-use Rattle.session_lines.proofs.Answers.{answer-fits, text-written}
+use Rattle.session_lines.proofs.Answers.{answer_fits, text_written}
 
 -- `Follows` for calls of `feed` one after another
 record Ran (line : List ℕ) (s : Stream) (r : SoFar) : Type 0 where
@@ -53,9 +53,9 @@ last : (line : List ℕ) (s : Stream) → s.line ≡ cut_line line → (out : Li
     → text (ended (empty s out)).out ≡ answers s.memory (lines_from line [])
 unfolding ended fed lines_from answers
 last line s e out room =
-    let a = answered s.memory (line_frame line) in let short = answer-fits s.memory (line_frame line) in
+    let a = answered s.memory (line_frame line) in let short = answer_fits s.memory (line_frame line) in
     rw (ap is_blank e ∙ blank_cut line, ap frame_held e ∙ frame_cut line, le-leb longest_answer (length out) room)
-    (by (eqb (length line) 0) _ (text-written (record { bytes = out; at = 0 }) a.line (omega arith)))
+    (by (eqb (length line) 0) _ (text_written (record { bytes = out; at = 0 }) a.line (omega arith)))
   where
     by : (blank : Bool) (f : Fed) → text f.out ≡ (answered s.memory (line_frame line)).line
         → text (cond blank (empty s out) f).out ≡ answers s.memory (cond blank [] (line ∷ []))

@@ -26,14 +26,14 @@ overflow_cast-asset c = index 15 (omega arith) c.ranges.asset (an_asset c)
 abbrev tested : List ℤ → Bool
 tested row = sound_row row && cover_test row
 
-row-heard : (c : After-covers) → let a = c.args in c.covers.result ≡ tested (lookup a.clearing.now a.own.now (nat_abs a.asset))
-row-heard c = c.covers.ensures
+row_heard : (c : After-covers) → let a = c.args in c.covers.result ≡ tested (lookup a.clearing.now a.own.now (nat_abs a.asset))
+row_heard c = c.covers.ensures
     ∙ ap tested (c.row_in_force.ensures.numbers ∙ ap (λ (z : ℤ). lookup c.args.clearing.now c.args.own.now (nat_abs z)) (to_z-of_z c.ranges.asset))
 
 pub returns-then-not-covers : goal.returns-then-not-covers
 unfolding covered
-returns-then-not-covers c = rw (an_asset c.before.before.before, taken (row-heard c.before) c.if-not-covers.true-raw)
+returns-then-not-covers c = rw (an_asset c.before.before.before, taken (row_heard c.before) c.if-not-covers.true-raw)
 
 pub returns : goal.returns
 unfolding covered
-returns c = rw (an_asset c.before.before.before, left (row-heard c.before) c.if-not-covers.false-raw)
+returns c = rw (an_asset c.before.before.before, left (row_heard c.before) c.if-not-covers.false-raw)

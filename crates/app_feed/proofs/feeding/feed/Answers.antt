@@ -47,9 +47,9 @@ module _ (lends : Tables) (account : ℤ) (kept : State) where
     below f h = subst Below2^53 (sym found) ((below_tested (figures_at lends (place_of account) kept)).only (passed (asked f) h))
 
     -- the whole code, from the test
-    after-size : (numbers : List ℕ) {n : ℕ} → length numbers ≡ 5 → Code (not (all_below (figures_at lends (place_of account) kept)) gives out_of_bounds ∷ []) n
+    after_size : (numbers : List ℕ) {n : ℕ} → length numbers ≡ 5 → Code (not (all_below (figures_at lends (place_of account) kept)) gives out_of_bounds ∷ []) n
         → n ≡ first_code (feed_refusals lends (place_of account) kept (length numbers))
-    after-size numbers long p = report_right lends (place_of account) kept numbers long (sym (code_is lends account kept e) ∙ done) p
+    after_size numbers long p = report_right lends (place_of account) kept numbers long (sym (code_is lends account kept e) ∙ done) p
 
 pub returns-then-bits-ne-COUNT : goal.returns-then-bits-ne-COUNT
 returns-then-bits-ne-COUNT c =
@@ -67,7 +67,7 @@ returns-then-not-all_below c =
     let e = told tables c.args.account s c.ranges.account c.report-reported.ensures in
     let done : c.report-reported.result.code ≡ 0 = search rules in
     let above = refuted (failed (asked tables c.args.account s e done c.all_below.ensures) c.if-not-all_below.true) in
-    sends_nothing tables (place_of c.args.account) s bits (after-size tables c.args.account s e done bits c.if-bits-ne-COUNT.false (hit above)) (λ z. absurd (omega arith))
+    sends_nothing tables (place_of c.args.account) s bits (after_size tables c.args.account s e done bits c.if-bits-ne-COUNT.false (hit above)) (λ z. absurd (omega arith))
     c.refused-then-not-all_below.ensures
 
 pub floats_of-figures-requires : goal.floats_of-figures-requires
@@ -105,6 +105,6 @@ returns c =
     let done : c.report-reported.result.code ≡ 0 = search rules in
     let within = denied (passed (asked tables c.args.account s e done c.all_below.ensures) c.if-not-all_below.false) in
     let f = found tables c.args.account s e done in
-    sends tables (place_of c.args.account) s bits (sym (after-size tables c.args.account s e done bits c.if-bits-ne-COUNT.false (miss within none)))
+    sends tables (place_of c.args.account) s bits (sym (after_size tables c.args.account s e done bits c.if-bits-ne-COUNT.false (miss within none)))
     (λ i. record { code = 0; figures = (c.floats_of-figures.ensures ∙ ap floats_of f) i; gauge = (c.gauge_of.ensures ∙ ap gauge_of f) i })
     c.put_bits.ensures

@@ -11,9 +11,9 @@ use Rattle.whole.proofs.Chains.{and_assoc}
 use Rattle.app_feed.specs.Floats.{most_exact, is_below, all_below}
 use Rattle.app_feed.proofs.floats.all_below.Goals as goal
 
-in-turn : (a b c d e : Bool) → (((a && b) && c) && d) && e ≡ all_true (a ∷ b ∷ c ∷ d ∷ e ∷ [])
+in_turn : (a b c d e : Bool) → (((a && b) && c) && d) && e ≡ all_true (a ∷ b ∷ c ∷ d ∷ e ∷ [])
 unfolding all_true
-in-turn a b c d e = simp (and_assoc, and-true) refl
+in_turn a b c d e = simp (and_assoc, and-true) refl
 
 pub returns : goal.returns
 unfolding all_below
@@ -26,4 +26,4 @@ returns c =
     let discount = heard (neg_ℤ (pos most_exact)) (pos most_exact) (sfits_of g.1.1.1.0.1) c.is_below-4.ensures in
     let limit = heard (neg_ℤ (pos most_exact)) (pos most_exact) (sfits_of g.1.1.1.1.0.1) c.is_below-5.ensures in
     (λ t. (((valuation t && market t) && interest t) && discount t) && limit t)
-    ∙ in-turn (is_below f.valuation) (is_below f.market) (is_below f.interest) (is_below f.discount) (is_below f.limit)
+    ∙ in_turn (is_below f.valuation) (is_below f.market) (is_below f.interest) (is_below f.discount) (is_below f.limit)

@@ -8,12 +8,12 @@ use lib.Ieee.Bits.{nan_bits_above}
 use borrow.Author.Tests.{lt-ltb, le-ltb, leb-true, leb-false}
 use Rattle.app_feed.proofs.reading.is_pattern.Goals as goal
 
-not-above : (a b : ℕ) → leb a b ≡ not (ltb b a)
-not-above a b = go (leb a b) refl
+not_above : (a b : ℕ) → leb a b ≡ not (ltb b a)
+not_above a b = go (leb a b) refl
   where
     go : (t : Bool) → leb a b ≡ t → t ≡ not (ltb b a)
     go true e = sym (ap not (le-ltb b a (leb-true a b e)))
     go false e = sym (ap not (lt-ltb b a (leb-false a b e)))
 
 pub returns : goal.returns
-returns c = not-above (c.args.bits % 9223372036854775808) 9218868437227405312 ∙ sym (ap not (nan_bits_above binary64 c.args.bits))
+returns c = not_above (c.args.bits % 9223372036854775808) 9218868437227405312 ∙ sym (ap not (nan_bits_above binary64 c.args.bits))

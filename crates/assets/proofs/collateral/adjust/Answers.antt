@@ -21,30 +21,30 @@ returns-in-NotRecorded c =
     rw (to_z-of_z c.lesser.ensures.1, c.in-NotRecorded.is) (e, omega ints)
 
 -- what the regime carries
-share-partial : (c : In-Partial) → c.in-Partial.share upto 10000
-share-partial c = subst ShareRange c.in-Partial.is c.requires.0
+share_partial : (c : In-Partial) → c.in-Partial.share upto 10000
+share_partial c = subst ShareRange c.in-Partial.is c.requires.0
 
-share-accepted : (c : In-Accepted) → c.in-Accepted.share upto 10000
-share-accepted c = subst ShareRange c.in-Accepted.is c.requires.0
+share_accepted : (c : In-Accepted) → c.in-Accepted.share upto 10000
+share_accepted c = subst ShareRange c.in-Accepted.is c.requires.0
 
 pub counted_of-requires : goal.counted_of-requires
 counted_of-requires c =
     let s = c in
-    rw (to_z-of_z (share-partial c).fits, to_z-of_z s.ranges.held, to_z-of_z s.ranges.net) (share-partial c, s.requires.1, s.requires.2)
+    rw (to_z-of_z (share_partial c).fits, to_z-of_z s.ranges.held, to_z-of_z s.ranges.net) (share_partial c, s.requires.1, s.requires.2)
 
 pub counted_of-requires-in-Accepted : goal.counted_of-requires-in-Accepted
 counted_of-requires-in-Accepted c =
     let s = c in
-    rw (to_z-of_z (share-accepted c).fits, to_z-of_z s.ranges.held, to_z-of_z s.ranges.net) (share-accepted c, s.requires.1, s.requires.2)
+    rw (to_z-of_z (share_accepted c).fits, to_z-of_z s.ranges.held, to_z-of_z s.ranges.net) (share_accepted c, s.requires.1, s.requires.2)
 
 pub returns-in-Partial : goal.returns-in-Partial
 returns-in-Partial c =
     let s = c in let r = c.counted_of.ensures in
     rw (to_z-of_z r.1.fits, c.in-Partial.is)
-    (r.0 ∙ (λ i. counted (to_z-of_z (share-partial c.before).fits i) (to_z-of_z s.ranges.held i) (to_z-of_z s.ranges.net i)), r.1)
+    (r.0 ∙ (λ i. counted (to_z-of_z (share_partial c.before).fits i) (to_z-of_z s.ranges.held i) (to_z-of_z s.ranges.net i)), r.1)
 
 pub returns-in-Accepted : goal.returns-in-Accepted
 returns-in-Accepted c =
     let s = c in let r = c.counted_of-in-Accepted.ensures in
     rw (to_z-of_z r.1.fits, c.in-Accepted.is)
-    (r.0 ∙ (λ i. counted (to_z-of_z (share-accepted c.before).fits i) (to_z-of_z s.ranges.held i) (to_z-of_z s.ranges.net i)), r.1)
+    (r.0 ∙ (λ i. counted (to_z-of_z (share_accepted c.before).fits i) (to_z-of_z s.ranges.held i) (to_z-of_z s.ranges.net i)), r.1)

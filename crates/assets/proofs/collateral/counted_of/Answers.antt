@@ -21,8 +21,8 @@ use Rattle.assets.proofs.collateral.counted_of.Goals.{After-divided_down-taken, 
 owned : (c : After-greater-owned) → c.greater-owned.result ≡ max_ℤ (pos 0) c.args.held
 owned c = c.greater-owned.ensures.0 ∙ ap (max_ℤ (pos 0)) (to_z-of_z c.ranges.held)
 
-owned-upto : (c : After-greater-owned) → c.greater-owned.result upto 1000000
-owned-upto c =
+owned_upto : (c : After-greater-owned) → c.greater-owned.result upto 1000000
+owned_upto c =
     let h = c.requires.1 in
     let e = owned c in
     let m = is (lit 0 ⊔ var c.args.held) in
@@ -35,36 +35,36 @@ free c =
     c.greater-free.ensures.0 ∙ ap (max_ℤ (pos 0)) (to_z-of_z least.1 ∙ least.0 ∙ clean₂ min_ℤ o.ranges.net o.greater-owned.ensures.1)
 
 -- nothing more is free than is owned
-free-range : (net owned free : ℤ) → owned upto 1000000 → free ≡ max_ℤ (pos 0) (min_ℤ net owned) → free upto 1000000
-free-range net owned free h e =
+free_range : (net owned free : ℤ) → owned upto 1000000 → free ≡ max_ℤ (pos 0) (min_ℤ net owned) → free upto 1000000
+free_range net owned free h e =
     let made = lit 0 ⊔ (var net ⊓ var owned) in
     let low = le! (lit 0) made (omega arith) in
     let high = le! made (lit 1000000) (omega ints) in
     subst (λ (z : ℤ). z upto 1000000) (sym e) (record { low = low; high = high; fits = omega ints })
 
-free-upto : (c : After-greater-free) → c.greater-free.result upto 1000000
-free-upto c = free-range _ _ _ (owned-upto c.before.before) (free c)
+free_upto : (c : After-greater-free) → c.greater-free.result upto 1000000
+free_upto c = free_range _ _ _ (owned_upto c.before.before) (free c)
 
 -- ---- what is taken of it
 abbrev product : After-greater-free → Expression
 product c = var c.args.share ⊛ var c.greater-owned.result
 
-product-range : (c : After-greater-free) → value (product c) upto 10000000000
-product-range c = product_upto c.requires.0 (owned-upto c.before.before) (omega arith)
+product_range : (c : After-greater-free) → value (product c) upto 10000000000
+product_range c = product_upto c.requires.0 (owned_upto c.before.before) (omega arith)
 
 product_ok : (c : After-greater-free) → Runs (product c)
-product_ok c = omega (ints, is (product c), product-range c, c.requires.0, owned-upto c.before.before)
+product_ok c = omega (ints, is (product c), product_range c, c.requires.0, owned_upto c.before.before)
 
 part : (c : After-divided_down-taken) → let o = c in c.divided_down-taken.result ≡ taken o.args.share o.greater-owned.result
 part c = c.divided_down-taken.ensures.0 ∙ ap (λ (z : ℤ). divided_down z 10000) (runs (product c.before) (product_ok c.before))
 
 pub divided_down-taken-requires : goal.divided_down-taken-requires
-divided_down-taken-requires c = rw (runs (product c) (product_ok c)) ((product-range c).low, omega ints)
+divided_down-taken-requires c = rw (runs (product c) (product_ok c)) ((product_range c).low, omega ints)
 
-part-from-zero : (c : After-divided_down-taken) → pos 0 ≤ℤ c.divided_down-taken.result
-part-from-zero c =
+part_from_zero : (c : After-divided_down-taken) → pos 0 ≤ℤ c.divided_down-taken.result
+part_from_zero c =
     let o = c.before.before.before in
-    rw (part c) (taken_from_zero o.args.share o.requires.0 o.greater-owned.result (owned-upto o).low)
+    rw (part c) (taken_from_zero o.args.share o.requires.0 o.greater-owned.result (owned_upto o).low)
 
 -- ---- what counts
 module _ (c : After-lesser-2) where
@@ -84,11 +84,11 @@ module _ (c : After-lesser-2) where
 
   ok : Runs sum
   ok =
-      let h = start.requires.1 in let f = free-upto c.before.before in let p = part-from-zero c.before in
+      let h = start.requires.1 in let f = free_upto c.before.before in let p = part_from_zero c.before in
       let l = least in omega ints
 
 pub overflow_sub-result : goal.overflow_sub-result
-overflow_sub-result c = let h = c.requires.1 in let f = free-upto c.before in omega ints
+overflow_sub-result c = let h = c.requires.1 in let f = free_upto c.before in omega ints
 
 pub returns : goal.returns
 returns c =

@@ -35,9 +35,9 @@ pub interest_risk-interest-requires : goal.interest_risk-interest-requires
 interest_risk-interest-requires c = let s = c.before.before.before.before in (s.requires.0, in_range s)
 
 -- the market risk where a test of the sum says so
-on-side : (test : ℤ → Bool) (c : After-market_risk-market) → let a = c.args in
+on_side : (test : ℤ → Bool) (c : After-market_risk-market) → let a = c.args in
     cond (test (back c.sum_of-sum.result)) (back c.market_risk-market.result) (pos 0) ≡ cond (test (position_sum a.x.positions)) (market_risk a.row.now a.x) (pos 0)
-on-side test c =
+on_side test c =
     let sum = c.sum_of-sum.ensures in
     let m = c.market_risk-market.ensures in
     ap₂ (λ (x y : ℤ). cond (test x) y (pos 0)) (to_z-of_z sum.1.fits ∙ sum.0) (to_z-of_z m.1.fits ∙ m.0)
@@ -62,8 +62,8 @@ returns c =
         worth = w j;
         market = (m ∙ market.0) j;
         interest = (i ∙ interest.0) j;
-        long = (l ∙ long.0 ∙ on-side (lt_z (pos 0)) risk) j;
-        short = (h ∙ short.0 ∙ on-side (λ (z : ℤ). lt_z z (pos 0)) risk) j;
+        long = (l ∙ long.0 ∙ on_side (lt_z (pos 0)) risk) j;
+        short = (h ∙ short.0 ∙ on_side (λ (z : ℤ). lt_z z (pos 0)) risk) j;
         group = group.0 j;
       }),
       record {

@@ -21,14 +21,14 @@ sum_of-traded-requires c = subst PositionRanges (sym c.requires.2) (net_ranges _
 traded : (c : After-sum_of-traded) → c.sum_of-traded.result ≡ trades c.args.holding.now
 traded c = c.sum_of-traded.ensures.0 ∙ ap position_sum c.requires.2 ∙ nets_summed _
 
-traded-within : (c : After-sum_of-traded) → c.sum_of-traded.result within 8000000
-traded-within c = subst (λ (t : ℤ). t within 8000000) (sym (traded c)) (trades_within _ c.requires.1)
+traded_within : (c : After-sum_of-traded) → c.sum_of-traded.result within 8000000
+traded_within c = subst (λ (t : ℤ). t within 8000000) (sym (traded c)) (trades_within _ c.requires.1)
 
 abbrev whole : After-held-1 → Expression
 whole c = var (collateral c.args.holding.now) ⊕ var c.sum_of-traded.result
 
 ok : (c : After-held-1) → Runs (whole c)
-ok c = let h = c.requires.1.collateral_within in let t = traded-within c.before in omega ints
+ok c = let h = c.requires.1.collateral_within in let t = traded_within c.before in omega ints
 
 raw : (c : After-held-1) → let holding = c.args.holding.now in held (whole c) ≡ collateral holding +ℤ trades holding
 raw c = runs (whole c) (ok c) ∙ ap (λ (t : ℤ). collateral c.args.holding.now +ℤ t) (traded c.before)
@@ -38,7 +38,7 @@ overflow_add-held c = need! (whole c) (ok c)
 
 pub adjust-requires : goal.adjust-requires
 adjust-requires c =
-    let s = c in let h = s.requires.1.collateral_within in let t = traded-within c.before in
+    let s = c in let h = s.requires.1.collateral_within in let t = traded_within c.before in
     rw (runs (whole c) (ok c), to_z-of_z h.fits) (s.requires.0, h, omega (ints, is (whole c)))
 
 pub returns : goal.returns

@@ -23,10 +23,10 @@ less c = var c.value-valued.result ⊖ var c.left_out-out.result
 ok : (c : After-left_out-out) → Runs (less c)
 ok c = let h = c.value-valued.ensures.1 in let k = c.left_out-out.ensures.1 in omega ints
 
-valued-is : (c : After-left_out-out) → let s = c in
+valued_is : (c : After-left_out-out) → let s = c in
     held (less c) ≡ valued_collateral c.regime_of-regime.result s.args.kind s.args.row.now s.args.holding.now
 unfolding valued_collateral
-valued-is c =
+valued_is c =
     let a = c.adjusted_collateral-c.ensures in
     let regime = c.regime_of-regime.result in
     runs (less c) (ok c) ∙ ap₂ ◌-ℤ◌ (c.value-valued.ensures.0 ∙ ap (valued regime) (to_z-of_z a.1.fits ∙ a.0)) c.left_out-out.ensures.0
@@ -47,7 +47,7 @@ returns c =
     let w = c.worth_of-worth.ensures in
     let p = c.positions_of-positions.ensures in
     let adjusted = a.adjusted_collateral-c.ensures in
-    let worth = to_z-of_z w.1.fits ∙ w.0 ∙ ap (λ (x : ℤ). Σ< 8 (worth_of s.args.row.now s.args.holding.now x)) (valued-is c.before.before) in
+    let worth = to_z-of_z w.1.fits ∙ w.0 ∙ ap (λ (x : ℤ). Σ< 8 (worth_of s.args.row.now s.args.holding.now x)) (valued_is c.before.before) in
     let positions = p ∙ ap (λ (x : ℤ). tabulated 8 (position s.args.holding.now x)) (to_z-of_z adjusted.1.fits ∙ adjusted.0) in
     let regime = a.regime_of-regime.ensures.0 in
     let made =

@@ -18,14 +18,14 @@ pub loop-d-init : goal.loop-d-init
 loop-d-init c = (omega arith, refl, refl, filled_none _ _)
 
 -- the sum of a date
-abbrev date-sum : After-positions-in-loop-d-1 → Expression
-date-sum c =
+abbrev date_sum : After-positions-in-loop-d-1 → Expression
+date_sum c =
     let a = c.args in
     let d = c.loop-d.d in
     var (number a.x.positions d) ⊕ var (number a.y.positions d)
 
-date-runs : (c : After-positions-in-loop-d-1) → Runs (date-sum c)
-date-runs c =
+date_runs : (c : After-positions-in-loop-d-1) → Runs (date_sum c)
+date_runs c =
     let s = c in
     let d = c.loop-d.d in
     sum_runs ((positions_range 3 _ s.requires.0 (omega arith)).each d (omega arith)) ((positions_range 1 _ s.requires.1 (omega arith)).each d (omega arith))
@@ -37,24 +37,24 @@ loop-d-preserved c =
       omega arith,
       simp length-set l.invariant.1,
       l.invariant.2,
-      filled_next _ l.d _ _ _ (pos 0) (omega arith) l.invariant.3 (runs (date-sum c) (date-runs c)),
+      filled_next _ l.d _ _ _ (pos 0) (omega arith) l.invariant.3 (runs (date_sum c) (date_runs c)),
     )
 
 pub overflow_add-positions : goal.overflow_add-positions
-overflow_add-positions c = need! (date-sum c) (date-runs c)
+overflow_add-positions c = need! (date_sum c) (date_runs c)
 
 -- the call, seen from its end, and the sum of the worths
 abbrev began : After-struct_told-2-1 → Start
 began c = c.before.before.before.before.before.before.before.before
 
-abbrev worth-sum : After-struct_told-2-1 → Expression
-worth-sum c = var (began c).args.x.worth ⊕ var (began c).args.y.worth
+abbrev worth_sum : After-struct_told-2-1 → Expression
+worth_sum c = var (began c).args.x.worth ⊕ var (began c).args.y.worth
 
-worth-runs : (c : After-struct_told-2-1) → Runs (worth-sum c)
-worth-runs c = sum_runs (began c).requires.0.worth_within (began c).requires.1.worth_within (omega arith)
+worth_runs : (c : After-struct_told-2-1) → Runs (worth_sum c)
+worth_runs c = sum_runs (began c).requires.0.worth_within (began c).requires.1.worth_within (omega arith)
 
 pub overflow_add-result : goal.overflow_add-result
-overflow_add-result c = need! (worth-sum c) (worth-runs c)
+overflow_add-result c = need! (worth_sum c) (worth_runs c)
 
 pub returns : goal.returns
 unfolding with_record
@@ -62,7 +62,7 @@ returns c =
     let s = began c in
     let l = c.loop-d in
     let e : l.d ≡ 8 = omega arith in
-    let worth = runs (worth-sum c) (worth-runs c) in
+    let worth = runs (worth_sum c) (worth_runs c) in
     let positions =
     l.invariant.3 ∙ ap (λ (n : ℕ). filled (λ d. number s.args.x.positions d +ℤ number s.args.y.positions d) n _) e ∙ filled_all _ 8 _ l.invariant.2 in
     λ i. record { regime = s.args.x.regime; worth = worth i; positions = positions i }

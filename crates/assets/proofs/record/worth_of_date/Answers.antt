@@ -18,26 +18,26 @@ date c = c.requires.0.date c.args.d c.requires.3
 abbrev unit : Start → ℤ
 unit c = back (price c.args.row.now) +ℤ back (mid c.args.row.now c.args.d)
 
-unit-is : (c : Start) → unit c ≡ level c.args.row.now c.args.d
-unit-is c = clean₂ ◌+ℤ◌ c.requires.0.price_upto.fits (date c).mid_within.fits
+unit_is : (c : Start) → unit c ≡ level c.args.row.now c.args.d
+unit_is c = clean₂ ◌+ℤ◌ c.requires.0.price_upto.fits (date c).mid_within.fits
 
 pub overflow_add-level-2 : goal.overflow_add-level-2
-overflow_add-level-2 c = let s = c.before.before.before in rw (unit-is s) (date s).level_upto.fits
+overflow_add-level-2 c = let s = c.before.before.before in rw (unit_is s) (date s).level_upto.fits
 
-worth-is : (c : After-level-2-1) → let s = c.before.before.before in
+worth_is : (c : After-level-2-1) → let s = c.before.before.before in
     back c.position_of-units.result *ℤ back (unit s) ≡ worth_of s.args.row.now s.args.holding.now s.args.c s.args.d
 unfolding worth_of
-worth-is c =
+worth_is c =
     let s = c.before.before.before in
     let u = c.position_of-units.ensures in
     let units = to_z-of_z u.1.fits ∙ u.0 ∙ ap (λ (x : ℤ). position s.args.holding.now x s.args.d) (to_z-of_z s.ranges.c) in
-    ap₂ ◌*ℤ◌ units (to_z-of_z (overflow_add-level-2 c) ∙ unit-is s)
+    ap₂ ◌*ℤ◌ units (to_z-of_z (overflow_add-level-2 c) ∙ unit_is s)
 
 bounded : (c : Start) → worth_of c.args.row.now c.args.holding.now c.args.c c.args.d within 30000000000000
 bounded c = worth_within _ c.requires.0 _ c.requires.1 _ c.requires.2 _ c.requires.3
 
 pub overflow_mul-result : goal.overflow_mul-result
-overflow_mul-result c = rw (worth-is c) (bounded c.before.before.before).fits
+overflow_mul-result c = rw (worth_is c) (bounded c.before.before.before).fits
 
 pub returns : goal.returns
-returns c = let h = bounded c.before.before.before in rw (worth-is c, to_z-of_z h.fits) (refl, h)
+returns c = let h = bounded c.before.before.before in rw (worth_is c, to_z-of_z h.fits) (refl, h)

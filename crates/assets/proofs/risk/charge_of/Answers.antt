@@ -30,37 +30,37 @@ module _ (c : After-lesser-within) where
   abbrev outer : Expression
   outer = var start.args.raised ⊛ above
 
-  part-is : part ≡ min_ℤ start.args.n start.args.limit
-  part-is = c.lesser-within.ensures.0 ∙ clean₂ min_ℤ start.ranges.n start.ranges.limit
+  part_is : part ≡ min_ℤ start.args.n start.args.limit
+  part_is = c.lesser-within.ensures.0 ∙ clean₂ min_ℤ start.ranges.n start.ranges.limit
 
-  part-upto : part upto 10000000
-  part-upto = let e = part-is in let p = start.requires in let m = is (var start.args.n ⊓ var start.args.limit) in
+  part_upto : part upto 10000000
+  part_upto = let e = part_is in let p = start.requires in let m = is (var start.args.n ⊓ var start.args.limit) in
       record { low = omega ints; high = omega ints; fits = c.lesser-within.ensures.1 }
 
   above_upto : value above upto 64000000
   above_upto =
-      let e = part-is in let p = start.requires in let m = is (var start.args.n ⊓ var start.args.limit) in
+      let e = part_is in let p = start.requires in let m = is (var start.args.n ⊓ var start.args.limit) in
       let low = le! (lit 0) above (omega ints) in let high = le! above (lit 64000000) (omega ints) in
       record { low = low; high = high; fits = omega ints }
 
   ok : Runs (inner ⊕ outer)
   ok =
       let p = start.requires in
-      let first = product_within p.0 (upto_within part-upto) (omega arith) in
+      let first = product_within p.0 (upto_within part_upto) (omega arith) in
       let second = product_within p.1 (upto_within above_upto) (omega arith) in
-      let a = above_upto in let b = part-upto in
+      let a = above_upto in let b = part_upto in
       omega (ints, is inner, is outer, first, second)
 
-  is-charge : value (inner ⊕ outer) ≡ charge start.args.base start.args.raised start.args.limit start.args.n
+  is_charge : value (inner ⊕ outer) ≡ charge start.args.base start.args.raised start.args.limit start.args.n
   unfolding charge
-  is-charge =
+  is_charge =
       let a = start.args in
-      ap₂ (λ (x y : ℤ). a.base *ℤ x +ℤ a.raised *ℤ y) part-is (ap (λ (x : ℤ). a.n -ℤ x) part-is ∙ above_left a.n a.limit)
+      ap₂ (λ (x y : ℤ). a.base *ℤ x +ℤ a.raised *ℤ y) part_is (ap (λ (x : ℤ). a.n -ℤ x) part_is ∙ above_left a.n a.limit)
 
 pub returns : goal.returns
 returns c =
     let p = (start c).requires in
-    let e = runs (inner c ⊕ outer c) (ok c) ∙ is-charge c in
+    let e = runs (inner c ⊕ outer c) (ok c) ∙ is_charge c in
     record {
       value = (e, subst (λ (z : ℤ). z within 640000000000000) (sym e) (charge_within p.0 p.1 p.2.low p.3 (omega arith)));
       not_below = λ b r.

@@ -65,13 +65,13 @@ size-requires c = let s = c in rw (to_z-of_z s.ranges.sum) (let l = s.requires.3
 sized : (c : After-size) → let s = c in c.size.result ≡ abs_ℤ (position_sum s.args.x.positions)
 sized c = c.size.ensures.0 ∙ ap abs_ℤ (sum_is c.before.before.before.before)
 
-sized-upto : (c : After-size) → c.size.result upto 64000000
-sized-upto c =
+sized_upto : (c : After-size) → c.size.result upto 64000000
+sized_upto c =
     let s = c in
     rw c.size.ensures.0 (size_upto (subst (λ (z : ℤ). z within 64000000) (sym (to_z-of_z s.ranges.sum)) s.requires.3) (omega arith))
 
 pub side_risk-requires : goal.side_risk-requires
-side_risk-requires c = (c.requires.0, c.side_of.ensures.1, upto_back (sized-upto c))
+side_risk-requires c = (c.requires.0, c.side_of.ensures.1, upto_back (sized_upto c))
 
 pub returns : goal.returns
 returns c =

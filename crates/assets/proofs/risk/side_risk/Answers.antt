@@ -21,17 +21,17 @@ use Rattle.assets.proofs.risk.side_risk.Goals.{After-divided_up-arg-1}
 abbrev product : After-divided_up-arg-1 → Expression
 product c = var c.units_charge-charged.result ⊛ var (price c.args.row.now)
 
-product-range : (c : After-divided_up-arg-1) → (c.units_charge-charged.result *ℤ price c.args.row.now) upto 6400000000000000000
-product-range c = product_upto c.units_charge-charged.ensures.1 c.requires.0.price_upto (omega arith)
+product_range : (c : After-divided_up-arg-1) → (c.units_charge-charged.result *ℤ price c.args.row.now) upto 6400000000000000000
+product_range c = product_upto c.units_charge-charged.ensures.1 c.requires.0.price_upto (omega arith)
 
 ok : (c : After-divided_up-arg-1) → Runs (product c)
-ok c = omega (ints, is (product c), product-range c, c.units_charge-charged.ensures.1, c.requires.0.price_upto)
+ok c = omega (ints, is (product c), product_range c, c.units_charge-charged.ensures.1, c.requires.0.price_upto)
 
 pub overflow_mul-charged : goal.overflow_mul-charged
 overflow_mul-charged c = need! (product c) (ok c)
 
 pub divided_up-requires : goal.divided_up-requires
-divided_up-requires c = let h = product-range c in rw (runs (product c) (ok c)) (h.low, omega ints, omega (ints, abs_is (value (product c))))
+divided_up-requires c = let h = product_range c in rw (runs (product c) (ok c)) (h.low, omega ints, omega (ints, abs_is (value (product c))))
 
 pub returns : goal.returns
 unfolding side_risk market_charge

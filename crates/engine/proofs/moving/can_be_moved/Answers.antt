@@ -11,8 +11,8 @@ use Rattle.book.specs.Choices.{asset_right, is_rubles}
 use Rattle.engine.proofs.moving.can_be_moved.Goals as goal
 use Rattle.engine.proofs.moving.can_be_moved.Goals.{Else-is_rubles, Else-not-asset_right}
 
-no-rubles : (c : Else-is_rubles) → is_rubles c.args.asset ≡ false
-no-rubles c = failed (c.is_rubles.ensures ∙ ap is_rubles (to_z-of_z c.ranges.asset)) c.if-is_rubles.false
+no_rubles : (c : Else-is_rubles) → is_rubles c.args.asset ≡ false
+no_rubles c = failed (c.is_rubles.ensures ∙ ap is_rubles (to_z-of_z c.ranges.asset)) c.if-is_rubles.false
 
 an_asset : (c : Else-not-asset_right) → asset_right c.args.asset ≡ true
 an_asset c = left (c.asset_right.ensures ∙ ap asset_right (to_z-of_z c.ranges.asset)) c.if-not-asset_right.false-raw
@@ -21,7 +21,7 @@ pub returns-then-is_rubles : goal.returns-then-is_rubles
 returns-then-is_rubles c = simp (passed (c.is_rubles.ensures ∙ ap is_rubles (to_z-of_z c.ranges.asset)) c.if-is_rubles.true)
 
 pub returns-then-not-asset_right : goal.returns-then-not-asset_right
-returns-then-not-asset_right c = simp (no-rubles c.before.before, taken (c.asset_right.ensures ∙ ap asset_right (to_z-of_z c.ranges.asset)) c.if-not-asset_right.true-raw)
+returns-then-not-asset_right c = simp (no_rubles c.before.before, taken (c.asset_right.ensures ∙ ap asset_right (to_z-of_z c.ranges.asset)) c.if-not-asset_right.true-raw)
 
 pub overflow_cast-asset : goal.overflow_cast-asset
 overflow_cast-asset c = index 15 (omega arith) c.ranges.asset (an_asset c)
@@ -29,4 +29,4 @@ overflow_cast-asset c = index 15 (omega arith) c.ranges.asset (an_asset c)
 pub returns : goal.returns
 returns c = c.is_listed.ensures
     ∙ ap (λ (z : ℤ). listed c.args.clearing.now (nat_abs z)) (to_z-of_z c.ranges.asset)
-    ∙ simp (no-rubles c.before.before.before, an_asset c.before)
+    ∙ simp (no_rubles c.before.before.before, an_asset c.before)

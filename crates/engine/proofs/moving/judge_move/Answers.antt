@@ -32,8 +32,8 @@ tables s = lent s.args.clearing s.args.own s.args.groups
 abbrev after : Start → State
 after s = changed_at s.args.i (λ b. moved b s.args.asset s.args.amount) (state s.args.book.now)
 
-made-is : (c : After-move_in) → c.move_in.new.book ≡ (after c.before.before).book
-made-is c = c.move_in.ensures ∙ ap (λ (z : ℤ). at_account c.args.book.now c.args.i (λ b. moved b c.args.asset z)) (to_z-of_z c.ranges.amount)
+made_is : (c : After-move_in) → c.move_in.new.book ≡ (after c.before.before).book
+made_is c = c.move_in.ensures ∙ ap (λ (z : ℤ). at_account c.args.book.now c.args.i (λ b. moved b c.args.asset z)) (to_z-of_z c.ranges.amount)
 
 withdrawn : (s : Start) → lt_z s.args.amount (pos 0) ≡ not (le_z (pos 0) (back s.args.amount))
 withdrawn s = negative s.args.amount ∙ ap (λ (z : ℤ). not (le_z (pos 0) z)) (sym (to_z-of_z s.ranges.amount))
@@ -47,27 +47,27 @@ pub returns-then-amount-ge0 : goal.returns-then-amount-ge0
 unfolding judged_move
 returns-then-amount-ge0 c = let a = c.args in
     made (move_judged (tables c.before.before.before.before) a.i a.asset a.amount) a.i (λ b. moved b a.asset a.amount) (state a.book.now) tt
-    (sym (code (miss (first_out _ _ (withdrawn c.before.before.before.before ∙ ap not c.if-amount-ge0.true)) none))) (made-is c.before.before)
+    (sym (code (miss (first_out _ _ (withdrawn c.before.before.before.before ∙ ap not c.if-amount-ge0.true)) none))) (made_is c.before.before)
 
 pub limit_at-limit-requires : goal.limit_at-limit-requires
-limit_at-limit-requires c = subst (λ (b : List ℤ). Judgeable (tables c.before.before.before.before) c.args.i (with_book (state c.args.book.now) b)) (sym (made-is c.before.before)) (judgeable_moved _ _ _ _ _ c.requires)
+limit_at-limit-requires c = subst (λ (b : List ℤ). Judgeable (tables c.before.before.before.before) c.args.i (with_book (state c.args.book.now) b)) (sym (made_is c.before.before)) (judgeable_moved _ _ _ _ _ c.requires)
 
 -- the limit that is looked at is that of the state with the move
 admits : (c : After-is_enough) → c.is_enough.result ≡ enough (limit_of (tables c.before.before.before.before.before.before) c.args.i (after c.before.before.before.before.before.before))
 admits c = let limit = c.limit_at-limit.ensures in c.is_enough.ensures
-    ∙ ap enough (to_z-of_z limit.1 ∙ limit.0 ∙ ap (λ (b : List ℤ). limit_of (tables c.before.before.before.before.before.before) c.args.i (with_book (state c.args.book.now) b)) (made-is c.before.before.before.before))
+    ∙ ap enough (to_z-of_z limit.1 ∙ limit.0 ∙ ap (λ (b : List ℤ). limit_of (tables c.before.before.before.before.before.before) c.args.i (with_book (state c.args.book.now) b)) (made_is c.before.before.before.before))
 
 pub returns-then-is_enough : goal.returns-then-is_enough
 unfolding judged_move
 returns-then-is_enough c = let a = c.args in
     made (move_judged (tables c.before.before.before.before.before.before.before) a.i a.asset a.amount) a.i (λ b. moved b a.asset a.amount) (state a.book.now) tt
-    (sym (code (miss (second_out (lt_z a.amount (pos 0)) _ (ap not (sym (admits c.before) ∙ c.if-is_enough.true))) none))) (made-is c.before.before.before.before.before)
+    (sym (code (miss (second_out (lt_z a.amount (pos 0)) _ (ap not (sym (admits c.before) ∙ c.if-is_enough.true))) none))) (made_is c.before.before.before.before.before)
 
 pub overflow_sub-amount : goal.overflow_sub-amount
 overflow_sub-amount c = negative_fits c.requires.movable.amount_within
 
 pub move_in-requires-2 : goal.move_in-requires-2
-move_in-requires-2 c = rw (made-is c.before.before.before.before.before.before, negated c.requires.movable.amount_within) (returnable _ _ _ _ _ c.requires)
+move_in-requires-2 c = rw (made_is c.before.before.before.before.before.before, negated c.requires.movable.amount_within) (returnable _ _ _ _ _ c.requires)
 
 pub returns : goal.returns
 unfolding judged_move
@@ -77,5 +77,5 @@ returns c =
     (code (hit (both _ _ (withdrawn c.before.before.before.before.before.before.before.before.before.before ∙ ap not c.if-amount-ge0.false) (ap not (sym (admits c.before.before.before.before) ∙ c.if-is_enough.false)))))
     (λ z. omega arith)
     (c.move_in-2.ensures
-    ∙ ap₂ (λ (b : List ℤ) (z : ℤ). at_account b a.i (λ b. moved b a.asset z)) (made-is c.before.before.before.before.before.before.before.before) (negated c.requires.movable.amount_within)
+    ∙ ap₂ (λ (b : List ℤ) (z : ℤ). at_account b a.i (λ b. moved b a.asset z)) (made_is c.before.before.before.before.before.before.before.before) (negated c.requires.movable.amount_within)
     ∙ moved_home _ _ _ _ _ c.requires)

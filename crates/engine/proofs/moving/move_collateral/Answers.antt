@@ -29,11 +29,11 @@ code_is : (c : After-move_code-code) → let a = c.args in
     c.move_code-code.result ≡ first_code (move_stands (tables c.before.before) c.place-i.result a.asset a.amount (state a.book.now))
 code_is c = let f = c.ranges in simp (to_z-of_z f.asset, to_z-of_z f.amount) at c.move_code-code.ensures
 
-code-0 : (c : Else-code-ne-DONE) → let a = c.args in first_code (move_stands (tables c.before.before.before) c.place-i.result a.asset a.amount (state a.book.now)) ≡ 0
-code-0 c = sym (code_is c.before) ∙ c.if-code-ne-DONE.false
+code_0 : (c : Else-code-ne-DONE) → let a = c.args in first_code (move_stands (tables c.before.before.before) c.place-i.result a.asset a.amount (state a.book.now)) ≡ 0
+code_0 c = sym (code_is c.before) ∙ c.if-code-ne-DONE.false
 
 stood : (c : Else-code-ne-DONE) → let a = c.args in MoveStood (tables c.before.before.before) c.place-i.result a.asset a.amount (state a.book.now)
-stood c = move_stood _ _ _ _ _ (code-0 c)
+stood c = move_stood _ _ _ _ _ (code_0 c)
 
 pub returns-then-code-ne-DONE : goal.returns-then-code-ne-DONE
 unfolding moving
@@ -52,4 +52,4 @@ pub returns : goal.returns
 unfolding moving
 returns c = let a = c.args in let f = c.ranges in let i = c.place-i.result in
     placed c.before.before.before.before.before ((simp (to_z-of_z f.asset, to_z-of_z f.amount) at c.judge_move.ensures)
-    ∙ let_through (move_stands (tables c.before.before.before.before.before.before) i a.asset a.amount) (judged_move (tables c.before.before.before.before.before.before) i (nat_abs a.asset) a.amount) (state a.book.now) tt (code-0 c.before.before.before))
+    ∙ let_through (move_stands (tables c.before.before.before.before.before.before) i a.asset a.amount) (judged_move (tables c.before.before.before.before.before.before) i (nat_abs a.asset) a.amount) (state a.book.now) tt (code_0 c.before.before.before))

@@ -25,39 +25,39 @@ use Rattle.engine.proofs.opening.judge_opening.Goals.{After-code_right, After-li
 abbrev after : Start → State
 after s = changed_at s.args.i (λ b. opened b s.args.kind s.args.code) (state s.args.book.now)
 
-abbrev rightAfter : Start → Bool
-rightAfter s = code_right (after s).book s.args.i
+abbrev right_after : Start → Bool
+right_after s = code_right (after s).book s.args.i
 
 asked : (c : After-lies_between) → c.lies_between.result ≡ kind_right c.args.kind
 asked c = heard (pos 1) (pos 3) c.ranges.kind c.lies_between.ensures
 
-opened-is : (c : After-open_in) → c.open_in.new.book ≡ (after c.before.before.before.before).book
-opened-is c = c.open_in.ensures ∙ (λ t. at_account c.args.book.now c.args.i (λ b. opened b (to_z-of_z c.ranges.kind t) (to_z-of_z c.ranges.code t)))
+opened_is : (c : After-open_in) → c.open_in.new.book ≡ (after c.before.before.before.before).book
+opened_is c = c.open_in.ensures ∙ (λ t. at_account c.args.book.now c.args.i (λ b. opened b (to_z-of_z c.ranges.kind t) (to_z-of_z c.ranges.code t)))
 
-right_is : (c : After-code_right) → c.code_right.result ≡ rightAfter c.before.before.before.before.before.before
-right_is c = c.code_right.ensures ∙ ap (λ (b : List ℤ). code_right b c.args.i) (opened-is c.before.before)
+right_is : (c : After-code_right) → c.code_right.result ≡ right_after c.before.before.before.before.before.before
+right_is c = c.code_right.ensures ∙ ap (λ (b : List ℤ). code_right b c.args.i) (opened_is c.before.before)
 
 pub returns-then-not-lies_between : goal.returns-then-not-lies_between
 unfolding judged_opening
 returns-then-not-lies_between c = let a = c.args in
     turned_away (open_judged a.i a.kind a.code) (changing a.i (λ b. opened b a.kind a.code)) (state a.book.now)
-    (code (hit (refuted (first_out (kind_right a.kind) (rightAfter c.before.before) (taken (asked c.before) c.if-not-lies_between.true-raw))))) (λ z. omega arith) refl
+    (code (hit (refuted (first_out (kind_right a.kind) (right_after c.before.before) (taken (asked c.before) c.if-not-lies_between.true-raw))))) (λ z. omega arith) refl
 
 pub returns-then-code_right : goal.returns-then-code_right
 unfolding judged_opening
 returns-then-code_right c =
     let a = c.args in
     made (open_judged a.i a.kind a.code) a.i (λ b. opened b a.kind a.code) (state a.book.now) tt
-    (sym (code (miss (denied (both (kind_right a.kind) (rightAfter c.before.before.before.before.before.before.before) (left (asked c.before.before.before.before.before.before) c.if-not-lies_between.false-raw) (passed (right_is c.before) c.if-code_right.true))) none)))
-    (opened-is c.before.before.before)
+    (sym (code (miss (denied (both (kind_right a.kind) (right_after c.before.before.before.before.before.before.before) (left (asked c.before.before.before.before.before.before) c.if-not-lies_between.false-raw) (passed (right_is c.before) c.if-code_right.true))) none)))
+    (opened_is c.before.before.before)
 
 pub returns : goal.returns
 unfolding judged_opening
 returns c =
     let a = c.args in
     turned_away (open_judged a.i a.kind a.code) (changing a.i (λ b. opened b a.kind a.code)) (state a.book.now)
-    (code (hit (refuted (second_out (kind_right a.kind) (rightAfter c.before.before.before.before.before.before.before.before.before.before) (failed (right_is c.before.before.before.before) c.if-code_right.false)))))
+    (code (hit (refuted (second_out (kind_right a.kind) (right_after c.before.before.before.before.before.before.before.before.before.before) (failed (right_is c.before.before.before.before) c.if-code_right.false)))))
     (λ z. omega arith)
     (c.open_in-2.ensures
-    ∙ ap (λ (b : List ℤ). at_account b a.i (λ b. opened b (pos 0) (pos 0))) (opened-is c.before.before.before.before.before.before)
+    ∙ ap (λ (b : List ℤ). at_account b a.i (λ b. opened b (pos 0) (pos 0))) (opened_is c.before.before.before.before.before.before)
     ∙ closed_again a.i (state a.book.now) a.kind a.code c.requires)

@@ -18,8 +18,8 @@ placed : (c : After-place-i) {o : Outcome} → let a = c.args in
 placed c e = let a = c.args in
     e ∙ ap (λ (i : ℕ). outcome_of (opening i a.kind a.code) (state a.book.now)) (c.place-i.ensures ∙ ap place_of (to_z-of_z c.ranges.account))
 
-code-0 : (c : Else-refusal-ne-DONE) → first_code (open_stands c.place-i.result (state c.args.book.now)) ≡ 0
-code-0 c = sym c.open_code-refusal.ensures ∙ c.if-refusal-ne-DONE.false
+code_0 : (c : Else-refusal-ne-DONE) → first_code (open_stands c.place-i.result (state c.args.book.now)) ≡ 0
+code_0 c = sym c.open_code-refusal.ensures ∙ c.if-refusal-ne-DONE.false
 
 pub returns-then-refusal-ne-DONE : goal.returns-then-refusal-ne-DONE
 unfolding opening
@@ -28,7 +28,7 @@ returns-then-refusal-ne-DONE c = let a = c.args in let i = c.place-i.result in
     (turned_away (open_stands i) (judged_opening i a.kind a.code) (state a.book.now) c.open_code-refusal.ensures c.if-refusal-ne-DONE.true refl)
 
 pub judge_opening-requires : goal.judge_opening-requires
-judge_opening-requires c = open_passed _ (state c.args.book.now) (code-0 c.before)
+judge_opening-requires c = open_passed _ (state c.args.book.now) (code_0 c.before)
 
 pub returns : goal.returns
 unfolding opening
@@ -36,4 +36,4 @@ returns c =
     let a = c.args in
     let i = c.place-i.result in
     placed c.before.before.before.before.before ((simp (to_z-of_z c.ranges.kind, to_z-of_z c.ranges.code) at c.judge_opening.ensures)
-    ∙ let_through (open_stands i) (judged_opening i a.kind a.code) (state a.book.now) tt (code-0 c.before.before.before))
+    ∙ let_through (open_stands i) (judged_opening i a.kind a.code) (state a.book.now) tt (code_0 c.before.before.before))

@@ -26,25 +26,25 @@ past b =
     ∷ between (pos 1) (account_kind b) (pos 3) gives 5
     ∷ []
 
-gate-passed : (c : Else-code-ne-DONE) → first_code (gate c.before.before) ≡ 0
-gate-passed c = sym c.book_gate-code.ensures ∙ c.if-code-ne-DONE.false
+gate_passed : (c : Else-code-ne-DONE) → first_code (gate c.before.before) ≡ 0
+gate_passed c = sym c.book_gate-code.ensures ∙ c.if-code-ne-DONE.false
 
 -- past the gate, of the block that was lent
-past-gate : (c : After-block_of-block) {n : ℕ} → n ≡ first_code (past c.block_of-block.result.now)
+past_gate : (c : After-block_of-block) {n : ℕ} → n ≡ first_code (past c.block_of-block.result.now)
     → n ≡ first_code (gate c.before.before.before ++ past (block_at (state c.args.book.now) c.args.i))
-past-gate c e = follows (gate c.before.before.before) (past (block_at (state c.args.book.now) c.args.i)) tt (gate-passed c.before) (e ∙ ap (λ (b : List ℤ). first_code (past b)) c.block_of-block.ensures.0)
+past_gate c e = follows (gate c.before.before.before) (past (block_at (state c.args.book.now) c.args.i)) tt (gate_passed c.before) (e ∙ ap (λ (b : List ℤ). first_code (past b)) c.block_of-block.ensures.0)
 
 pub returns-then-code-ne-DONE : goal.returns-then-code-ne-DONE
 returns-then-code-ne-DONE c = stops (gate c.before.before) (past (block_at (state c.args.book.now) c.args.i)) c.book_gate-code.ensures c.if-code-ne-DONE.true
 
 pub block_of-block-requires : goal.block_of-block-requires
-block_of-block-requires c = book_passed _ (state c.args.book.now) (gate-passed c)
+block_of-block-requires c = book_passed _ (state c.args.book.now) (gate_passed c)
 
 pub returns-then-number_between : goal.returns-then-number_between
-returns-then-number_between c = past-gate c.before.before (code (miss (search codes) (hit (search codes))))
+returns-then-number_between c = past_gate c.before.before (code (miss (search codes) (hit (search codes))))
 
 pub returns-then-not-is_empty : goal.returns-then-not-is_empty
-returns-then-not-is_empty c = past-gate c.before.before.before.before (code (hit (search codes)))
+returns-then-not-is_empty c = past_gate c.before.before.before.before (code (hit (search codes)))
 
 pub returns : goal.returns
-returns c = past-gate c.before.before.before.before (code (miss (search codes) (miss (search codes) none)))
+returns c = past_gate c.before.before.before.before (code (miss (search codes) (miss (search codes) none)))

@@ -32,11 +32,11 @@ pub limit_at-after-requires : goal.limit_at-after-requires
 limit_at-after-requires c = subst (λ (b : List ℤ). Judgeable (tables c.before.before.before) c.args.i (with_book (state c.args.book.now) b)) (sym c.trade_in.ensures) (judgeable_booked _ _ _ _ c.requires)
 
 -- the limit that is looked at is that of the state with the trade
-limit-after : (c : After-limit_at-after) → c.limit_at-after.result ≡ limit_of (tables c.before.before.before.before) c.args.i (after c.before.before.before.before)
-limit-after c = c.limit_at-after.ensures.0 ∙ ap (λ (b : List ℤ). limit_of (tables c.before.before.before.before) c.args.i (with_book (state c.args.book.now) b)) c.trade_in.ensures
+limit_after : (c : After-limit_at-after) → c.limit_at-after.result ≡ limit_of (tables c.before.before.before.before) c.args.i (after c.before.before.before.before)
+limit_after c = c.limit_at-after.ensures.0 ∙ ap (λ (b : List ℤ). limit_of (tables c.before.before.before.before) c.args.i (with_book (state c.args.book.now) b)) c.trade_in.ensures
 
 admits : (c : After-is_enough) → c.is_enough.result ≡ enough (limit_of (tables c.before.before.before.before.before) c.args.i (after c.before.before.before.before.before))
-admits c = c.is_enough.ensures ∙ ap enough (to_z-of_z c.limit_at-after.ensures.1 ∙ limit-after c.before)
+admits c = c.is_enough.ensures ∙ ap enough (to_z-of_z c.limit_at-after.ensures.1 ∙ limit_after c.before)
 
 pub returns-then-is_enough : goal.returns-then-is_enough
 unfolding judged_trade
@@ -66,5 +66,5 @@ returns c =
     let a = c.args in
     c.book_if_raised.ensures
     ∙ ap₂ (λ (limit : ℤ) (b : List ℤ). outcome_of (raising_trade (tables c.before.before.before.before.before.before.before.before.before.before.before.before.before) a.i a.t limit) (with_book (state a.book.now) b))
-    (to_z-of_z c.limit_at-after.ensures.1 ∙ limit-after c.before.before.before.before.before.before.before.before.before) (returned c.before.before.before.before)
+    (to_z-of_z c.limit_at-after.ensures.1 ∙ limit_after c.before.before.before.before.before.before.before.before.before) (returned c.before.before.before.before)
     ∙ second_ground (tables c.before.before.before.before.before.before.before.before.before.before.before.before.before) a.i a.t (state a.book.now) (sym (admits c.before.before.before.before.before.before.before.before) ∙ c.if-is_enough.false)

@@ -23,11 +23,11 @@ placed : (c : After-place-i) {q : Outcome} → q ≡ outcome_of (ordering (table
     → q ≡ outcome_of (ordering (tables c.before) (place_of c.args.account) c.args.o) (state c.args.book.now)
 placed c e = e ∙ ap (λ (i : ℕ). outcome_of (ordering (tables c.before) i c.args.o) (state c.args.book.now)) (c.place-i.ensures ∙ ap place_of (to_z-of_z c.ranges.account))
 
-code-0 : (c : Else-code-ne-DONE) → first_code (order_stands (tables c.before.before.before) c.place-i.result c.args.o (state c.args.book.now)) ≡ 0
-code-0 c = sym c.order_code-code.ensures ∙ c.if-code-ne-DONE.false
+code_0 : (c : Else-code-ne-DONE) → first_code (order_stands (tables c.before.before.before) c.place-i.result c.args.o (state c.args.book.now)) ≡ 0
+code_0 c = sym c.order_code-code.ensures ∙ c.if-code-ne-DONE.false
 
 stood : (c : Else-code-ne-DONE) → OrderStood (tables c.before.before.before) c.place-i.result c.args.o (state c.args.book.now)
-stood c = order_stood _ _ _ _ (code-0 c)
+stood c = order_stood _ _ _ _ (code_0 c)
 
 pub returns-then-code-ne-DONE : goal.returns-then-code-ne-DONE
 unfolding ordering
@@ -47,4 +47,4 @@ unfolding ordering
 returns c = let a = c.args in let i = c.place-i.result in
     placed c.before.before.before.before.before.before (c.judge_order.ensures
     ∙ ap (λ (t : Trade). outcome_of (judged_trade (tables c.before.before.before.before.before.before.before) i t) (state a.book.now)) c.trade_of.ensures
-    ∙ let_through (order_stands (tables c.before.before.before.before.before.before.before) i a.o) (judged_trade (tables c.before.before.before.before.before.before.before) i (trade_of a.o)) (state a.book.now) tt (code-0 c.before.before.before.before))
+    ∙ let_through (order_stands (tables c.before.before.before.before.before.before.before) i a.o) (judged_trade (tables c.before.before.before.before.before.before.before) i (trade_of a.o)) (state a.book.now) tt (code_0 c.before.before.before.before))

@@ -38,23 +38,23 @@ checks s = order_checks s.args.clearing.now s.args.o
 abbrev nine : Start → List Refusal
 nine s = trade_out (own s) (trade_of s.args.o) gives out_of_bounds ∷ []
 
-first-passed : (c : Else-code-ne-DONE) → first_code (first c.before.before) ≡ 0
-first-passed c = sym c.report_code-code.ensures ∙ c.if-code-ne-DONE.false
+first_passed : (c : Else-code-ne-DONE) → first_code (first c.before.before) ≡ 0
+first_passed c = sym c.report_code-code.ensures ∙ c.if-code-ne-DONE.false
 
 passed : (c : Else-code-ne-DONE) → ReportPassed (tables c.before.before) c.args.i (state c.args.book.now)
-passed c = report_passed _ _ _ (first-passed c)
+passed c = report_passed _ _ _ (first_passed c)
 
-checks-passed : (c : Else-wrong-ne-DONE) → first_code (checks c.before.before.before.before) ≡ 0
-checks-passed c = sym c.order_checks-wrong.ensures ∙ c.if-wrong-ne-DONE.false
+checks_passed : (c : Else-wrong-ne-DONE) → first_code (checks c.before.before.before.before) ≡ 0
+checks_passed c = sym c.order_checks-wrong.ensures ∙ c.if-wrong-ne-DONE.false
 
 ranges : (c : Else-wrong-ne-DONE) → TermsRanges c.args.o
-ranges c = terms_ranges _ _ (checks-passed c)
+ranges c = terms_ranges _ _ (checks_passed c)
 
 pub returns-then-code-ne-DONE : goal.returns-then-code-ne-DONE
 returns-then-code-ne-DONE c = stops (first c.before.before) (checks c.before.before ++ nine c.before.before) c.report_code-code.ensures c.if-code-ne-DONE.true
 
 pub returns-then-wrong-ne-DONE : goal.returns-then-wrong-ne-DONE
-returns-then-wrong-ne-DONE c = follows (first c.before.before.before.before) (checks c.before.before.before.before ++ nine c.before.before.before.before) tt (first-passed c.before.before) (stops (checks c.before.before.before.before) (nine c.before.before.before.before) c.order_checks-wrong.ensures c.if-wrong-ne-DONE.true)
+returns-then-wrong-ne-DONE c = follows (first c.before.before.before.before) (checks c.before.before.before.before ++ nine c.before.before.before.before) tt (first_passed c.before.before) (stops (checks c.before.before.before.before) (nine c.before.before.before.before) c.order_checks-wrong.ensures c.if-wrong-ne-DONE.true)
 
 pub block_of-requires : goal.block_of-requires
 block_of-requires c = (passed c.before.before).gate.there
@@ -68,14 +68,14 @@ trade_fits-requires c = let p = passed c.before.before.before.before in record {
   ranges = subst TradeRanges (sym c.trade_of.ensures) (trade_ranges _ (ranges c.before.before));
 }
 
-past-checks : (c : After-trade_fits) {n : ℕ} → n ≡ first_code (nine c.before.before.before.before.before.before.before) → n ≡ first_code (first c.before.before.before.before.before.before.before ++ (checks c.before.before.before.before.before.before.before ++ nine c.before.before.before.before.before.before.before))
-past-checks c e = follows (first c.before.before.before.before.before.before.before) (checks c.before.before.before.before.before.before.before ++ nine c.before.before.before.before.before.before.before) tt (first-passed c.before.before.before.before.before) (follows (checks c.before.before.before.before.before.before.before) (nine c.before.before.before.before.before.before.before) tt (checks-passed c.before.before.before) e)
+past_checks : (c : After-trade_fits) {n : ℕ} → n ≡ first_code (nine c.before.before.before.before.before.before.before) → n ≡ first_code (first c.before.before.before.before.before.before.before ++ (checks c.before.before.before.before.before.before.before ++ nine c.before.before.before.before.before.before.before))
+past_checks c e = follows (first c.before.before.before.before.before.before.before) (checks c.before.before.before.before.before.before.before ++ nine c.before.before.before.before.before.before.before) tt (first_passed c.before.before.before.before.before) (follows (checks c.before.before.before.before.before.before.before) (nine c.before.before.before.before.before.before.before) tt (checks_passed c.before.before.before) e)
 
 tested : (c : After-trade_fits) → c.trade_fits.result ≡ in_bounds (traded (own c.before.before.before.before.before.before.before) (trade_of c.args.o))
 tested c = c.trade_fits.ensures ∙ ap₂ (λ (b : List ℤ) (t : Trade). in_bounds (traded b t)) c.block_of.ensures.0 c.trade_of.ensures
 
 pub returns-then-not-trade_fits : goal.returns-then-not-trade_fits
-returns-then-not-trade_fits c = past-checks c.before (code (hit (ap not (taken (tested c.before) c.if-not-trade_fits.true-raw))))
+returns-then-not-trade_fits c = past_checks c.before (code (hit (ap not (taken (tested c.before) c.if-not-trade_fits.true-raw))))
 
 pub returns : goal.returns
-returns c = past-checks c.before (code (miss (ap not (left (tested c.before) c.if-not-trade_fits.false-raw)) none))
+returns c = past_checks c.before (code (miss (ap not (left (tested c.before) c.if-not-trade_fits.false-raw)) none))

@@ -17,8 +17,8 @@ placed : (c : After-place-i) {o : Outcome} → let a = c.args in o ≡ outcome_o
     → o ≡ outcome_of (rolling (place_of a.account)) (state a.book.now)
 placed c e = e ∙ ap (λ (i : ℕ). outcome_of (rolling i) (state c.args.book.now)) (c.place-i.ensures ∙ ap place_of (to_z-of_z c.ranges.account))
 
-code-0 : (c : Else-code-ne-DONE) → first_code (roll_refusals c.place-i.result (state c.args.book.now)) ≡ 0
-code-0 c = sym c.roll_code-code.ensures ∙ c.if-code-ne-DONE.false
+code_0 : (c : Else-code-ne-DONE) → first_code (roll_refusals c.place-i.result (state c.args.book.now)) ≡ 0
+code_0 c = sym c.roll_code-code.ensures ∙ c.if-code-ne-DONE.false
 
 pub returns-then-code-ne-DONE : goal.returns-then-code-ne-DONE
 unfolding rolling
@@ -26,9 +26,9 @@ returns-then-code-ne-DONE c = let i = c.place-i.result in
     placed c.before.before (turned_away (roll_refusals i) (changing i rolled) (state c.args.book.now) c.roll_code-code.ensures c.if-code-ne-DONE.true refl)
 
 pub roll_in-requires : goal.roll_in-requires
-roll_in-requires c = roll_passed _ (state c.args.book.now) (code-0 c.before)
+roll_in-requires c = roll_passed _ (state c.args.book.now) (code_0 c.before)
 
 pub returns : goal.returns
 unfolding rolling
 returns c = let i = c.place-i.result in
-    placed c.before.before.before.before.before (made (roll_refusals i) i rolled (state c.args.book.now) tt (code-0 c.before.before.before) c.roll_in.ensures)
+    placed c.before.before.before.before.before (made (roll_refusals i) i rolled (state c.args.book.now) tt (code_0 c.before.before.before) c.roll_in.ensures)

@@ -35,14 +35,14 @@ held s = block_refusals s.args.i (state s.args.book.now)
 abbrev nine : Start → List Refusal
 nine s = roll_out (own s) gives 9 ∷ []
 
-gate-passed : (c : Else-code-ne-DONE) → first_code (gate c.before.before) ≡ 0
-gate-passed c = sym c.book_gate-code.ensures ∙ c.if-code-ne-DONE.false
+gate_passed : (c : Else-code-ne-DONE) → first_code (gate c.before.before) ≡ 0
+gate_passed c = sym c.book_gate-code.ensures ∙ c.if-code-ne-DONE.false
 
 there : (c : Else-code-ne-DONE) → let a = c.args in InBook a.book.now a.i
-there c = book_passed _ (state c.args.book.now) (gate-passed c)
+there c = book_passed _ (state c.args.book.now) (gate_passed c)
 
-held-passed : (c : Else-wrong-ne-DONE) → first_code (held c.before.before.before.before) ≡ 0
-held-passed c = sym c.block_code-wrong.ensures ∙ c.if-wrong-ne-DONE.false
+held_passed : (c : Else-wrong-ne-DONE) → first_code (held c.before.before.before.before) ≡ 0
+held_passed c = sym c.block_code-wrong.ensures ∙ c.if-wrong-ne-DONE.false
 
 tested : (c : After-roll_fits) → c.roll_fits.result ≡ in_bounds (rolled (own c.before.before.before.before.before.before))
 tested c = c.roll_fits.ensures ∙ ap (λ (b : List ℤ). in_bounds (rolled b)) c.block_of.ensures.0
@@ -54,7 +54,7 @@ pub block_code-wrong-requires : goal.block_code-wrong-requires
 block_code-wrong-requires c = there c
 
 pub returns-then-wrong-ne-DONE : goal.returns-then-wrong-ne-DONE
-returns-then-wrong-ne-DONE c = follows (gate c.before.before.before.before) (held c.before.before.before.before ++ nine c.before.before.before.before) tt (gate-passed c.before.before) (stops (held c.before.before.before.before) (nine c.before.before.before.before) c.block_code-wrong.ensures c.if-wrong-ne-DONE.true)
+returns-then-wrong-ne-DONE c = follows (gate c.before.before.before.before) (held c.before.before.before.before ++ nine c.before.before.before.before) tt (gate_passed c.before.before) (stops (held c.before.before.before.before) (nine c.before.before.before.before) c.block_code-wrong.ensures c.if-wrong-ne-DONE.true)
 
 pub block_of-requires : goal.block_of-requires
 block_of-requires c = there c.before.before
@@ -64,14 +64,14 @@ roll_fits-requires c = record {
   long = c.block_of.ensures.1;
   in_bounds = ap in_bounds c.block_of.ensures.0
       ∙ good_in_bounds (own c.before.before.before.before.before) (block_long c.args.book.now c.args.i (there c.before.before.before))
-      (member_good _ c.args.i c.args.i (there c.before.before.before).below (on_itself _ c.args.i) (not-false _ (none_holds (held c.before.before.before.before.before) tt (held-passed c.before) 0)));
+      (member_good _ c.args.i c.args.i (there c.before.before.before).below (on_itself _ c.args.i) (not-false _ (none_holds (held c.before.before.before.before.before) tt (held_passed c.before) 0)));
 }
 
-past-held : (c : After-roll_fits) {n : ℕ} → n ≡ first_code (nine c.before.before.before.before.before.before) → n ≡ first_code (gate c.before.before.before.before.before.before ++ (held c.before.before.before.before.before.before ++ nine c.before.before.before.before.before.before))
-past-held c e = follows (gate c.before.before.before.before.before.before) (held c.before.before.before.before.before.before ++ nine c.before.before.before.before.before.before) tt (gate-passed c.before.before.before.before) (follows (held c.before.before.before.before.before.before) (nine c.before.before.before.before.before.before) tt (held-passed c.before.before) e)
+past_held : (c : After-roll_fits) {n : ℕ} → n ≡ first_code (nine c.before.before.before.before.before.before) → n ≡ first_code (gate c.before.before.before.before.before.before ++ (held c.before.before.before.before.before.before ++ nine c.before.before.before.before.before.before))
+past_held c e = follows (gate c.before.before.before.before.before.before) (held c.before.before.before.before.before.before ++ nine c.before.before.before.before.before.before) tt (gate_passed c.before.before.before.before) (follows (held c.before.before.before.before.before.before) (nine c.before.before.before.before.before.before) tt (held_passed c.before.before) e)
 
 pub returns-then-not-roll_fits : goal.returns-then-not-roll_fits
-returns-then-not-roll_fits c = past-held c.before (code (hit (ap not (taken (tested c.before) c.if-not-roll_fits.true-raw))))
+returns-then-not-roll_fits c = past_held c.before (code (hit (ap not (taken (tested c.before) c.if-not-roll_fits.true-raw))))
 
 pub returns : goal.returns
-returns c = past-held c.before (code (miss (ap not (left (tested c.before) c.if-not-roll_fits.false-raw)) none))
+returns c = past_held c.before (code (miss (ap not (left (tested c.before) c.if-not-roll_fits.false-raw)) none))

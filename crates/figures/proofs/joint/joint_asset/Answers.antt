@@ -19,9 +19,9 @@ holding_range : (s : Start) (k : ℕ) → k < s.args.members.count
     → HoldingRanges (holding_of (block_of s.args.book.now (member_at s.args.members k)) s.args.a)
 holding_range s k l = (s.requires.0.block k l).holding s.args.a s.requires.2
 
-asset-range : (s : Start) (k : ℕ) → k < s.args.members.count
+asset_range : (s : Start) (k : ℕ) → k < s.args.members.count
     → AssetRanges 1 (of s.args.book.now s.args.members.kind s.args.row.now s.args.a (member_at s.args.members k))
-asset-range s k l = asset_ranges _ _ s.requires.1 _ (holding_range s k l)
+asset_range s k l = asset_ranges _ _ s.requires.1 _ (holding_range s k l)
 
 pub asset_of-x-requires : goal.asset_of-x-requires
 asset_of-x-requires c = let s = c.before in (s.requires.1, subst HoldingRanges (sym c.holding_of.ensures) (holding_range s 0 s.requires.0.some))
@@ -32,7 +32,7 @@ loop-k-init c =
     let s = c.before.before in
     let made = c.asset_of-x.ensures.0 ∙ ap (asset_of s.args.members.kind s.args.row.now) c.holding_of.ensures in
     let xs = of s.args.book.now s.args.members.kind s.args.row.now s.args.a in
-    (s.requires.0.some, made ∙ record_first (member_at s.args.members) _ xs refl (asset-range s 0 s.requires.0.some).size)
+    (s.requires.0.some, made ∙ record_first (member_at s.args.members) _ xs refl (asset_range s 0 s.requires.0.some).size)
 
 pub asset_of-y-requires : goal.asset_of-y-requires
 asset_of-y-requires c =
@@ -45,7 +45,7 @@ with_record-x-requires c =
     let s = c.before.before.before.before.before.before in
     let xs = of s.args.book.now s.args.members.kind s.args.row.now s.args.a in
     let few = s.requires.0.few in
-    let over-passed = record_ranges (member_at s.args.members) _ xs l.k (omega arith) (λ k q. asset-range s k (omega arith)) in
+    let over-passed = record_ranges (member_at s.args.members) _ xs l.k (omega arith) (λ k q. asset_range s k (omega arith)) in
     (ranges_wider l.k 3 l.x (subst (AssetRanges l.k) (sym l.invariant.1) over-passed) (omega arith), c.asset_of-y.ensures.1)
 
 pub loop-k-preserved : goal.loop-k-preserved

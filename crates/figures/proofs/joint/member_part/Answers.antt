@@ -19,15 +19,15 @@ use Rattle.figures.proofs.joint.member_part.Goals as goal
 use Rattle.figures.proofs.joint.member_part.Goals.{After-joint_asset-x, After-row_in_force-row, Start}
 
 -- the row that the lookup hands back
-looked-up : (c : After-row_in_force-row) → let a = c.args in c.row_in_force-row.result.now ≡ in_force a.clearing.now a.own.now a.a
-looked-up c =
+looked_up : (c : After-row_in_force-row) → let a = c.args in c.row_in_force-row.result.now ≡ in_force a.clearing.now a.own.now a.a
+looked_up c =
     let s = c in
     let t = s.requires.1 in
     let found : c.row_in_force-row.result.now ≡ lookup s.args.clearing.now s.args.own.now s.args.a = search (rules, c.row_in_force-row.ensures) in
     found ∙ in_force_lem _ _ s.args.a t.clearing_long t.own_long s.requires.2
 
 row_ranges : (c : After-row_in_force-row) → RowRanges c.row_in_force-row.result.now
-row_ranges c = let s = c in subst RowRanges (sym (looked-up c)) (s.requires.1.row s.args.a s.requires.2)
+row_ranges c = let s = c in subst RowRanges (sym (looked_up c)) (s.requires.1.row s.args.a s.requires.2)
 
 pub joint_asset-x-requires : goal.joint_asset-x-requires
 joint_asset-x-requires c = let s = c in (s.requires.0, row_ranges c, s.requires.2)
@@ -38,7 +38,7 @@ over s row = let a = s.args in joint_of (over_members a.members) a.members.kind 
 
 joined : (c : After-joint_asset-x) → let s = c.before.before in let a = s.args in
     c.joint_asset-x.result ≡ over s (in_force a.clearing.now a.own.now a.a)
-joined c = c.joint_asset-x.ensures ∙ ap (over c.before.before) (looked-up c.before)
+joined c = c.joint_asset-x.ensures ∙ ap (over c.before.before) (looked_up c.before)
 
 pub part_of-requires : goal.part_of-requires
 part_of-requires c =
@@ -50,4 +50,4 @@ pub returns : goal.returns
 unfolding joint_part
 returns c =
     let found = c.before.before in
-    c.part_of.ensures.0 ∙ (λ i. part_of (looked-up found i) (joined c.before i))
+    c.part_of.ensures.0 ∙ (λ i. part_of (looked_up found i) (joined c.before i))

@@ -14,15 +14,15 @@ use Rattle.figures.proofs.joint.none_holds.Goals as goal
 use Rattle.figures.proofs.joint.none_holds.Goals.{Start}
 
 -- a holding's length
-lent-long : (s : Start) (k : ℕ) {holding : List ℤ} → k < s.args.members.count
+lent_long : (s : Start) (k : ℕ) {holding : List ℤ} → k < s.args.members.count
     → holding ≡ holding_of (block_of s.args.book.now (member_at s.args.members k)) s.args.a → length holding ≡ 17
-lent-long s k l e = ap length e ∙ ((s.requires.0.block k l).holding s.args.a s.requires.1).long
+lent_long s k l e = ap length e ∙ ((s.requires.0.block k l).holding s.args.a s.requires.1).long
 
 pub is_nothing-requires : goal.is_nothing-requires
-is_nothing-requires c = let s = c.before in lent-long s 0 s.requires.0.some c.holding_of.ensures
+is_nothing-requires c = let s = c.before in lent_long s 0 s.requires.0.some c.holding_of.ensures
 
 pub is_nothing-requires-in-loop-k : goal.is_nothing-requires-in-loop-k
-is_nothing-requires-in-loop-k c = let l = c.before.before in lent-long l.before.before.before.before l.loop-k.k (omega arith) c.holding_of-in-loop-k.ensures
+is_nothing-requires-in-loop-k c = let l = c.before.before in lent_long l.before.before.before.before l.loop-k.k (omega arith) c.holding_of-in-loop-k.ensures
 
 -- the first member, which is looked at before the others
 pub returns-then-not-is_nothing : goal.returns-then-not-is_nothing

@@ -22,11 +22,11 @@ use Rattle.figures.proofs.limit.discount_of.Goals.{After-divided_down-arg-1, Aft
 abbrev percent : Start → ℤ
 percent c = number c.args.groups.now c.args.g
 
-percent-upto : (c : Start) → percent c upto 50
-percent-upto c = c.requires.0.each c.args.g c.requires.3
+percent_upto : (c : Start) → percent c upto 50
+percent_upto c = c.requires.0.each c.args.g c.requires.3
 
-lesser-upto : (c : After-lesser-lesser) → c.lesser-lesser.result upto 10240000000000000
-lesser-upto c =
+lesser_upto : (c : After-lesser-lesser) → c.lesser-lesser.result upto 10240000000000000
+lesser_upto c =
     let s = c in
     let long = s.requires.1.each (1 + s.args.g) (omega arith) in
     let short = s.requires.2.each (1 + s.args.g) (omega arith) in
@@ -36,11 +36,11 @@ lesser-upto c =
 abbrev product : After-divided_down-arg-1 → Expression
 product c = lit 2 ⊛ var (percent c.before.before.before.before) ⊛ var c.lesser-lesser.result
 
-product-range : (c : After-divided_down-arg-1) → (pos 2 *ℤ percent c.before.before.before.before *ℤ c.lesser-lesser.result) upto 1024000000000000000
-product-range c = product_upto (twice_upto (percent-upto c.before.before.before.before)) (lesser-upto c.before) (omega arith)
+product_range : (c : After-divided_down-arg-1) → (pos 2 *ℤ percent c.before.before.before.before *ℤ c.lesser-lesser.result) upto 1024000000000000000
+product_range c = product_upto (twice_upto (percent_upto c.before.before.before.before)) (lesser_upto c.before) (omega arith)
 
 ok : (c : After-divided_down-arg-1) → Runs (product c)
-ok c = omega (ints, is (product c), product-range c, percent-upto c.before.before.before.before, lesser-upto c.before)
+ok c = omega (ints, is (product c), product_range c, percent_upto c.before.before.before.before, lesser_upto c.before)
 
 pub overflow_mul-groups : goal.overflow_mul-groups
 overflow_mul-groups c = need! (lit 2 ⊛ var (percent c.before.before.before.before)) (ok c).0
@@ -49,7 +49,7 @@ pub overflow_mul-groups-2 : goal.overflow_mul-groups-2
 overflow_mul-groups-2 c = need! (product c) (ok c)
 
 pub divided_down-requires : goal.divided_down-requires
-divided_down-requires c = rw (runs (product c) (ok c)) ((product-range c).low, omega ints)
+divided_down-requires c = rw (runs (product c) (ok c)) ((product_range c).low, omega ints)
 
 pub returns : goal.returns
 unfolding discount_of
@@ -61,5 +61,5 @@ returns c =
     let r = c.divided_down.ensures in
     let e = to_z-of_z r.1 ∙ r.0 ∙ ap (λ (z : ℤ). divided_down z 100) (runs (product k) (ok k)) in (
       e ∙ ap (λ (z : ℤ). divided_down (pos 2 *ℤ percent s *ℤ z) 100) (k.lesser-lesser.ensures.0 ∙ clean₂ min_ℤ long.fits short.fits),
-      subst (λ (z : ℤ). z upto 10240000000000000) (sym e) (discount_upto (percent-upto s) (lesser-upto k.before) (omega arith)),
+      subst (λ (z : ℤ). z upto 10240000000000000) (sym e) (discount_upto (percent_upto s) (lesser_upto k.before) (omega arith)),
     )

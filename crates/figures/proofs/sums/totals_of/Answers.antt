@@ -39,8 +39,8 @@ parts s =
     let a = s.args in
     member_part a.members a.book.now (lent a.clearing a.own a.groups)
 
-part-range : (s : Start) (a : ℕ) → a < 16 → PartRanges (parts s a)
-part-range s a l = member_part_range _ _ _ s.requires.0 s.requires.1 a l
+part_range : (s : Start) (a : ℕ) → a < 16 → PartRanges (parts s a)
+part_range s a l = member_part_range _ _ _ s.requires.0 s.requires.1 a l
 
 pub loop-a-init : goal.loop-a-init
 unfolding totals_of by_group Σ< tabulated
@@ -53,7 +53,7 @@ loop-a-preserved-then-none_holds c =
     let s = c.before.before.before.before in
     let empty = passed c.none_holds.ensures c.if-none_holds.true in
     let nothing = member_part_none _ _ _ s.requires.0 s.requires.1 l.a (omega arith) (λ k q. every_at _ _ k q empty) in
-    (omega arith, totals_turn (parts s) l.a _ _ (part-range s l.a (omega arith)) l.invariant.1 (sym (no_part _ _ nothing)))
+    (omega arith, totals_turn (parts s) l.a _ _ (part_range s l.a (omega arith)) l.invariant.1 (sym (no_part _ _ nothing)))
 
 -- ---- a number added to a sum, and to a number of a side
 abbrev Summed : ℤ → ℤ → Type 0
@@ -90,55 +90,55 @@ module _ (m : After-member_part-part) where
   asset_below : turn.loop-a.a < 16
   asset_below = omega arith
 
-  part-ranges : PartRanges part
-  part-ranges = subst PartRanges (sym m.member_part-part.ensures) (part-range start turn.loop-a.a asset_below)
+  part_ranges : PartRanges part
+  part_ranges = subst PartRanges (sym m.member_part-part.ensures) (part_range start turn.loop-a.a asset_below)
 
-  sum-ranges : TotalRanges 15 so_far
-  sum-ranges =
+  sum_ranges : TotalRanges 15 so_far
+  sum_ranges =
       let l = turn.loop-a in
-      let over = totals_range (parts start) (part-range start) l.a l.invariant.0 in
+      let over = totals_range (parts start) (part_range start) l.a l.invariant.0 in
       ranges_wider l.a 15 _ (subst (TotalRanges l.a) (sym l.invariant.1) over) (omega arith)
 
-  valuation-summed : Summed (to_z w64 turn.loop-a.valuation-bits) part.worth
-  valuation-summed = summed (to_z w64 turn.loop-a.valuation-bits) part.worth sum-ranges.valuation_within part-ranges.worth_within (omega arith)
+  valuation_summed : Summed (to_z w64 turn.loop-a.valuation-bits) part.worth
+  valuation_summed = summed (to_z w64 turn.loop-a.valuation-bits) part.worth sum_ranges.valuation_within part_ranges.worth_within (omega arith)
 
-  market-summed : Summed (to_z w64 turn.loop-a.market-bits) part.market
-  market-summed = summed (to_z w64 turn.loop-a.market-bits) part.market (upto_within sum-ranges.market_upto) (upto_within part-ranges.market_upto) (omega arith)
+  market_summed : Summed (to_z w64 turn.loop-a.market-bits) part.market
+  market_summed = summed (to_z w64 turn.loop-a.market-bits) part.market (upto_within sum_ranges.market_upto) (upto_within part_ranges.market_upto) (omega arith)
 
-  interest-summed : Summed (to_z w64 turn.loop-a.interest-bits) part.interest
-  interest-summed = summed (to_z w64 turn.loop-a.interest-bits) part.interest (upto_within sum-ranges.interest_upto) (upto_within part-ranges.interest_upto) (omega arith)
+  interest_summed : Summed (to_z w64 turn.loop-a.interest-bits) part.interest
+  interest_summed = summed (to_z w64 turn.loop-a.interest-bits) part.interest (upto_within sum_ranges.interest_upto) (upto_within part_ranges.interest_upto) (omega arith)
 
-  long-raised : Raised turn.loop-a.long part.group part.long
-  long-raised = raised turn.loop-a.long part.group part.long sum-ranges.long_range part-ranges.group_below part-ranges.long_upto
+  long_raised : Raised turn.loop-a.long part.group part.long
+  long_raised = raised turn.loop-a.long part.group part.long sum_ranges.long_range part_ranges.group_below part_ranges.long_upto
 
-  short-raised : Raised turn.loop-a.short part.group part.short
-  short-raised = raised turn.loop-a.short part.group part.short sum-ranges.short_range part-ranges.group_below part-ranges.short_upto
+  short_raised : Raised turn.loop-a.short part.group part.short
+  short_raised = raised turn.loop-a.short part.group part.short sum_ranges.short_range part_ranges.group_below part_ranges.short_upto
 
 -- where the part was made, seen from where its numbers are added
-abbrev at-market : After-struct_told-in-loop-a-1 → After-member_part-part
-at-market c = c.before.before.before.before.before
+abbrev at_market : After-struct_told-in-loop-a-1 → After-member_part-part
+at_market c = c.before.before.before.before.before
 
-abbrev at-interest : After-struct_told-in-loop-a-2-1 → After-member_part-part
-at-interest c = c.before.before.before.before.before.before.before
+abbrev at_interest : After-struct_told-in-loop-a-2-1 → After-member_part-part
+at_interest c = c.before.before.before.before.before.before.before
 
 abbrev at_long : After-struct_told-in-loop-a-3-1 → After-member_part-part
 at_long c = c.before.before.before.before.before.before.before.before.before.before
 
-abbrev at-short : After-struct_told-in-loop-a-4-1 → After-member_part-part
-at-short c = c.before.before.before.before.before.before.before.before.before.before.before.before
+abbrev at_short : After-struct_told-in-loop-a-4-1 → After-member_part-part
+at_short c = c.before.before.before.before.before.before.before.before.before.before.before.before
 
 pub loop-a-preserved : goal.loop-a-preserved
 unfolding with_part added
 loop-a-preserved c =
-    let m = at-short c in
+    let m = at_short c in
     let l = (turn m).loop-a in
-    let valuation = (valuation-summed m).1 in
-    let market = (market-summed m).1 in
-    let interest = (interest-summed m).1 in
-    let long = ap (set l.long (part m).group) (long-raised m).1 in
-    let short = ap (set l.short (part m).group) (short-raised m).1 in
+    let valuation = (valuation_summed m).1 in
+    let market = (market_summed m).1 in
+    let interest = (interest_summed m).1 in
+    let long = ap (set l.long (part m).group) (long_raised m).1 in
+    let short = ap (set l.short (part m).group) (short_raised m).1 in
     let with_this : _ ≡ with_part (so_far m) (part m) = λ i. sums (valuation i) (market i) (interest i) (long i) (short i) in
-    (omega arith, totals_turn (parts (start m)) l.a _ _ (part-range (start m) l.a (omega arith)) l.invariant.1 (with_this ∙ ap (with_part (so_far m)) m.member_part-part.ensures))
+    (omega arith, totals_turn (parts (start m)) l.a _ _ (part_range (start m) l.a (omega arith)) l.invariant.1 (with_this ∙ ap (with_part (so_far m)) m.member_part-part.ensures))
 
 pub returns : goal.returns
 returns c =
@@ -147,40 +147,40 @@ returns c =
     l.invariant.1 ∙ ap (totals_of (parts c.before.before)) e
 
 pub overflow_add-valuation : goal.overflow_add-valuation
-overflow_add-valuation c = (valuation-summed c.before.before.before).0
+overflow_add-valuation c = (valuation_summed c.before.before.before).0
 
 pub overflow_add-market : goal.overflow_add-market
-overflow_add-market c = (market-summed (at-market c)).0
+overflow_add-market c = (market_summed (at_market c)).0
 
 pub overflow_add-interest : goal.overflow_add-interest
-overflow_add-interest c = (interest-summed (at-interest c)).0
+overflow_add-interest c = (interest_summed (at_interest c)).0
 
 pub offset_bounds-long-group : goal.offset_bounds-long-group
-offset_bounds-long-group c = let below = (part-ranges (at-interest c)).group_below in search rules
+offset_bounds-long-group c = let below = (part_ranges (at_interest c)).group_below in search rules
 
 pub bounds-long-group : goal.bounds-long-group
-bounds-long-group c = (part-ranges (at-interest c)).group_below
+bounds-long-group c = (part_ranges (at_interest c)).group_below
 
 pub overflow_add-long : goal.overflow_add-long
-overflow_add-long c = (long-raised (at_long c)).0
+overflow_add-long c = (long_raised (at_long c)).0
 
 pub bounds-long-group-in-loop-a : goal.bounds-long-group-in-loop-a
-bounds-long-group-in-loop-a c = (part-ranges (at_long c)).group_below
+bounds-long-group-in-loop-a c = (part_ranges (at_long c)).group_below
 
 pub offset_bounds-short-group : goal.offset_bounds-short-group
-offset_bounds-short-group c = let below = (part-ranges (at_long c)).group_below in search rules
+offset_bounds-short-group c = let below = (part_ranges (at_long c)).group_below in search rules
 
 pub bounds-short-group : goal.bounds-short-group
-bounds-short-group c = (part-ranges (at_long c)).group_below
+bounds-short-group c = (part_ranges (at_long c)).group_below
 
 pub overflow_add-short : goal.overflow_add-short
-overflow_add-short c = (short-raised (at-short c)).0
+overflow_add-short c = (short_raised (at_short c)).0
 
 pub bounds-short-group-in-loop-a : goal.bounds-short-group-in-loop-a
-bounds-short-group-in-loop-a c = (part-ranges (at-short c)).group_below
+bounds-short-group-in-loop-a c = (part_ranges (at_short c)).group_below
 
 pub overflow_add-a-in-loop-a : goal.overflow_add-a-in-loop-a
-overflow_add-a-in-loop-a c = let below = asset_below (at-short c) in search rules
+overflow_add-a-in-loop-a c = let below = asset_below (at_short c) in search rules
 
 pub loop-a-smaller : goal.loop-a-smaller
-loop-a-smaller c = let below = asset_below (at-short c) in search rules
+loop-a-smaller c = let below = asset_below (at_short c) in search rules

@@ -28,17 +28,17 @@ module _ (l : List ℕ) (i : ℕ) (h : i + 1 < length l) where
       let f : i + 2 ≡ suc (suc i) = omega arith in
       drop-cons l i 0 (omega arith) ∙ ap (λ (t : List ℕ). get_or l i 0 ∷ t) (drop-cons l (suc i) 0 (omega arith) ∙ rw (e, f))
 
-  high-out : 16 ≤ high → is_hex (drop i l) ≡ false
+  high_out : 16 ≤ high → is_hex (drop i l) ≡ false
   unfolding is_hex
-  high-out p = rw (two_digits, le-ltb high 16 p) refl
+  high_out p = rw (two_digits, le-ltb high 16 p) refl
 
-  low-out : 16 ≤ low → is_hex (drop i l) ≡ false
+  low_out : 16 ≤ low → is_hex (drop i l) ≡ false
   unfolding is_hex
-  low-out p = rw (two_digits, le-ltb low 16 p) (second_out (ltb high 16) false refl)
+  low_out p = rw (two_digits, le-ltb low 16 p) (second_out (ltb high 16) false refl)
 
-  both-in : high < 16 → low < 16 → is_hex (drop i l) ≡ is_hex (drop (i + 2) l)
+  both_in : high < 16 → low < 16 → is_hex (drop i l) ≡ is_hex (drop (i + 2) l)
   unfolding is_hex
-  both-in p q = rw (two_digits, lt-ltb high 16 p, lt-ltb low 16 q) refl
+  both_in p q = rw (two_digits, lt-ltb high 16 p, lt-ltb low 16 q) refl
 
   one_more : (bytes : List ℕ) (k b : ℕ) → k < length bytes → b ≡ high * 16 + low
       → take k bytes ++ bytes_of (drop i l) ≡ take (k + 1) (set bytes k b) ++ bytes_of (drop (i + 2) l)
@@ -50,29 +50,29 @@ module _ (l : List ℕ) (i : ℕ) (h : i + 1 < length l) where
       ∙ ap (λ (t : List ℕ). t ++ bytes_of (drop (i + 2) l)) (sym s)
 
 -- the end of the line, and a last digit alone
-hex-none : (l : List ℕ) (i : ℕ) → i ≡ length l → is_hex (drop i l) ≡ true
+hex_none : (l : List ℕ) (i : ℕ) → i ≡ length l → is_hex (drop i l) ≡ true
 unfolding is_hex
-hex-none l i e = rw (e, drop-length)
+hex_none l i e = rw (e, drop-length)
 
-hex-one : (l : List ℕ) (i : ℕ) → i + 1 ≡ length l → is_hex (drop i l) ≡ false
+hex_one : (l : List ℕ) (i : ℕ) → i + 1 ≡ length l → is_hex (drop i l) ≡ false
 unfolding is_hex
-hex-one l i h = let e : suc i ≡ length l = omega arith in rw (drop-cons l i 0 (omega arith), e, drop-length)
+hex_one l i h = let e : suc i ≡ length l = omega arith in rw (drop-cons l i 0 (omega arith), e, drop-length)
 
-bytes-none : (l : List ℕ) (i : ℕ) → i ≡ length l → bytes_of (drop i l) ≡ []
+bytes_none : (l : List ℕ) (i : ℕ) → i ≡ length l → bytes_of (drop i l) ≡ []
 unfolding bytes_of
-bytes-none l i e = rw (e, drop-length)
+bytes_none l i e = rw (e, drop-length)
 
 ends : (l : List ℕ) (i : ℕ) → length l ≤ i + 1 → i ≤ length l → eqb i (length l) ≡ is_hex (drop i l)
 ends l i h n = by (eqb i (length l)) refl
   where
     by : (t : Bool) → eqb i (length l) ≡ t → t ≡ is_hex (drop i l)
-    by true e = sym (hex-none l i (eqb-true i (length l) e))
-    by false e = let d : (i ≡ length l → ⊥) = eqb-false i (length l) e in sym (hex-one l i (omega arith))
+    by true e = sym (hex_none l i (eqb-true i (length l) e))
+    by false e = let d : (i ≡ length l → ⊥) = eqb-false i (length l) e in sym (hex_one l i (omega arith))
 
-all-written : (l bytes : List ℕ) (i k : ℕ) → i ≡ 2 * k → i ≡ length l → bytes_of l ≡ take k bytes ++ bytes_of (drop i l) → take (length l / 2) bytes ≡ bytes_of l
-all-written l bytes i k e f g =
+all_written : (l bytes : List ℕ) (i k : ℕ) → i ≡ 2 * k → i ≡ length l → bytes_of l ≡ take k bytes ++ bytes_of (drop i l) → take (length l / 2) bytes ≡ bytes_of l
+all_written l bytes i k e f g =
     let h : length l / 2 ≡ k = omega arith in
-    ap (λ (n : ℕ). take n bytes) h ∙ sym (append-nil (take k bytes)) ∙ ap (λ (t : List ℕ). take k bytes ++ t) (sym (bytes-none l i f)) ∙ sym g
+    ap (λ (n : ℕ). take n bytes) h ∙ sym (append-nil (take k bytes)) ∙ ap (λ (t : List ℕ). take k bytes ++ t) (sym (bytes_none l i f)) ∙ sym g
 
 pub loop-i-init : goal.loop-i-init
 loop-i-init c = record { twice = omega arith; inside = omega arith; same = refl; hex = refl; written = refl }
@@ -80,12 +80,12 @@ loop-i-init c = record { twice = omega arith; inside = omega arith; same = refl;
 pub returns-then-high-eq-BASE : goal.returns-then-high-eq-BASE
 returns-then-high-eq-BASE c =
     let j = c.loop-i in
-    record { right = sym (j.invariant.hex ∙ high-out _ j.i c.loop-i-test.true (omega arith)); written = λ e. true_not_false e }
+    record { right = sym (j.invariant.hex ∙ high_out _ j.i c.loop-i-test.true (omega arith)); written = λ e. true_not_false e }
 
 pub returns-then-low-eq-BASE : goal.returns-then-low-eq-BASE
 returns-then-low-eq-BASE c =
     let j = c.loop-i in
-    record { right = sym (j.invariant.hex ∙ low-out _ j.i c.loop-i-test.true (omega arith)); written = λ e. true_not_false e }
+    record { right = sym (j.invariant.hex ∙ low_out _ j.i c.loop-i-test.true (omega arith)); written = λ e. true_not_false e }
 
 pub loop-i-preserved : goal.loop-i-preserved
 loop-i-preserved c =
@@ -95,11 +95,11 @@ loop-i-preserved c =
       twice = omega arith;
       inside = omega arith;
       same = simp length-set j.invariant.same;
-      hex = j.invariant.hex ∙ both-in _ j.i h (omega arith) (omega arith);
+      hex = j.invariant.hex ∙ both_in _ j.i h (omega arith) (omega arith);
       written = j.invariant.written ∙ one_more _ j.i h j.bytes j.k _ (omega arith) (omega arith);
     }
 
 pub returns : goal.returns
 returns c =
     let j = c.loop-i in
-    record { right = ends _ j.i c.loop-i-test.false j.invariant.inside ∙ sym j.invariant.hex; written = λ t. all-written _ j.bytes j.i j.k j.invariant.twice (eqb-true _ _ t) j.invariant.written }
+    record { right = ends _ j.i c.loop-i-test.false j.invariant.inside ∙ sym j.invariant.hex; written = λ t. all_written _ j.bytes j.i j.k j.invariant.twice (eqb-true _ _ t) j.invariant.written }

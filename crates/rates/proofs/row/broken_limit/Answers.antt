@@ -16,13 +16,13 @@ use Rattle.rates.specs.Rules.{limit_marks}
 use Rattle.rates.proofs.row.broken_limit.Goals as goal
 
 -- numbers 13, 14 and 15
-first-spare : (row : List ℤ) (r : ℕ) → length row ≡ row_length → r ≡ first_false (map is_zero (take 3 (drop 13 row)))
+first_spare : (row : List ℤ) (r : ℕ) → length row ≡ row_length → r ≡ first_false (map is_zero (take 3 (drop 13 row)))
     → 13 + r ≡ place_from 13 (is_zero (spare row 0) ∷ is_zero (spare row 1) ∷ is_zero (spare row 2) ∷ [])
 unfolding place_from
-first-spare row r long e =
+first_spare row r long e =
     rw (e, drop-cons row 13 (pos 0) (omega arith), drop-cons row 14 (pos 0) (omega arith), drop-cons row 15 (pos 0) (omega arith))
 
-ruleset limits = (first-spare, first_on, first_stop)
+ruleset limits = (first_spare, first_on, first_stop)
 
 pub returns-then-not-number_between : goal.returns-then-not-number_between
 unfolding limit_marks

@@ -31,8 +31,8 @@ module _ (c : After-is_absent-arg-1) where
   row_is : row ≡ row_of clearing a
   row_is = cut (64 * a) 64 _
 
-  row-lent : length row ≡ row_length
-  row-lent = ap length row_is ∙ row_long _ c.requires a c.loop-a-test.true
+  row_lent : length row ≡ row_length
+  row_lent = ap length row_is ∙ row_long _ c.requires a c.loop-a-test.true
 
   count : length (clearing_marks clearing a) ≡ row_length
   count = clearing_row_count _ c.requires a c.loop-a-test.true
@@ -64,10 +64,10 @@ pub loop-a-init : goal.loop-a-init
 loop-a-init c = none_passed
 
 pub is_absent-requires : goal.is_absent-requires
-is_absent-requires c = row-lent c
+is_absent-requires c = row_lent c
 
 pub broken_number-broken-requires : goal.broken_number-broken-requires
-broken_number-broken-requires c = row-lent c.before.before.before
+broken_number-broken-requires c = row_lent c.before.before.before
 
 pub returns : goal.returns
 returns c = all_passed c.loop-a.invariant c.loop-a-test.false refl

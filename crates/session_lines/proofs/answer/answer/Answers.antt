@@ -38,24 +38,24 @@ module _ (s : Start) where
     p ∙ ap (λ (o : Outcome). put (answer_line o.code [])) left,
   )
 
-  by-setting : {code place : ℕ} {number : ℤ} {after : List ℤ} {wrote : Written} → s.args.frame ≡ Parameter place number
+  by_setting : {code place : ℕ} {number : ℤ} {after : List ℤ} {wrote : Written} → s.args.frame ≡ Parameter place number
       → (code ≡ place_code place) × (after ≡ parameter_set m.parameters place number)
       → wrote ≡ put (answer_line code []) → Done (record { state = m.state; parameters = after }) wrote
   unfolding answered
-  by-setting e left p = rw e (
+  by_setting e left p = rw e (
     (λ i. record { state = m.state; parameters = left.1 i }),
     p ∙ ap (λ (n : ℕ). put (answer_line n [])) left.0,
   )
 
-  by-report : {reported r : Reported} {wrote : Written} → reported ≡ r → answer ≡ record { memory = m; line = report_line r }
+  by_report : {reported r : Reported} {wrote : Written} → reported ≡ r → answer ≡ record { memory = m; line = report_line r }
       → wrote ≡ put (report_line reported) → Done m wrote
-  by-report same e p = rw e (refl, p ∙ ap (λ (r : Reported). put (report_line r)) same)
+  by_report same e p = rw e (refl, p ∙ ap (λ (r : Reported). put (report_line r)) same)
 
 pub returns-in-Parameter : goal.returns-in-Parameter
 unfolding answered
 returns-in-Parameter c =
     let number_fits : SFits w64 c.in-Parameter.number = search rules in
-    let e = by-setting c.before.before.before.before.before.before.before.before.before.before c.in-Parameter.is (simp (to_z-of_z number_fits) at c.set_parameter.ensures)
+    let e = by_setting c.before.before.before.before.before.before.before.before.before.before c.in-Parameter.is (simp (to_z-of_z number_fits) at c.set_parameter.ensures)
     c.put_code.ensures in
     record { kept = e.0; said = e.1 }
 
@@ -86,7 +86,7 @@ returns-in-Roll c =
 pub returns-in-Report : goal.returns-in-Report
 unfolding answered
 returns-in-Report c =
-    let e = by-report c.before.before.before.before.before.before.before.before c.report.ensures (ap (answered _) c.in-Report.is) c.put_report.ensures in
+    let e = by_report c.before.before.before.before.before.before.before.before c.report.ensures (ap (answered _) c.in-Report.is) c.put_report.ensures in
     record { kept = e.0; said = e.1 }
 
 pub returns-in-Malformed : goal.returns-in-Malformed

@@ -8,9 +8,9 @@ use Rattle.session_lines.proofs.calls.Bytes.{byte_is}
 use Rattle.session_lines.proofs.calls.order.Goals as goal
 use Rattle.session_lines.proofs.calls.order.Goals.{After-book-1}
 
-account-fits : (c : After-book-1) → Fits w8 c.args.line.account
-account-fits c = search rules
+account_fits : (c : After-book-1) → Fits w8 c.args.line.account
+account_fits c = search rules
 
 pub returns : goal.returns
 unfolding part line_order
-returns c = simp (byte_is (account-fits c), c.terms_of.ensures) at c.order.ensures
+returns c = simp (byte_is (account_fits c), c.terms_of.ensures) at c.order.ensures

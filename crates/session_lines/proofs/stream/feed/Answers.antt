@@ -9,9 +9,9 @@ use Rattle.frames.specs.declared.frame.Frame.{Frame}
 use Rattle.session_lines.specs.Session.{Memory, answered}
 use Rattle.session_lines.specs.Stream.{begun, held, frame_held, Stream, Fed, closed, fed, empty, Took}
 use Rattle.session_lines.proofs.stream.Steps.{byte_taken, line_taken, line_waits, piece_ends, some_used}
-use Rattle.session_lines.proofs.Answers.{written-inside}
+use Rattle.session_lines.proofs.Answers.{written_inside}
 use Rattle.session_lines.proofs.Through.{stream_in}
-use Rattle.session_lines.proofs.stream.feed.Invariants.{fedIn, Kept}
+use Rattle.session_lines.proofs.stream.feed.Invariants.{fed_in, Kept}
 use Rattle.session_lines.proofs.stream.feed.Goals as goal
 
 pub loop-i-init : goal.loop-i-init
@@ -26,7 +26,7 @@ loop-i-preserved-then-piece-i-ne-NEWLINE c =
       long = j.invariant.long;
       counted = λ _. h.counted;
       rest = j.invariant.rest ∙ byte_taken _ _ c.loop-i-test.true c.if-piece-i-ne-NEWLINE.true
-          (λ k. let m = (stream_in j.book j.parameters [] 0).memory in fedIn (record { line = h.grown k; memory = m }) j.out j.at (j.i + 1));
+          (λ k. let m = (stream_in j.book j.parameters [] 0).memory in fed_in (record { line = h.grown k; memory = m }) j.out j.at (j.i + 1));
     }
 
 -- where it stops
@@ -50,11 +50,11 @@ returns-then-out-at-lt-LONGEST_ANSWER c =
     record { fed = e.0; took = e.1 }
 
 -- a line answered: by its frame, read from what memory holds
-line-closed : (f : Fed) (line : List ℕ) {frame : Frame} {memory : Memory} {out : Written} → frame ≡ frame_held f.stream.line
+line_closed : (f : Fed) (line : List ℕ) {frame : Frame} {memory : Memory} {out : Written} → frame ≡ frame_held f.stream.line
     → let a = answered f.stream.memory frame in memory ≡ a.memory → out ≡ written f.out.bytes f.out.at a.line
     → record { used = f.used + 1; stream = record { line = held line 0; memory = memory }; out = out } ≡ closed f
 unfolding held
-line-closed f line same kept said = let m = f.stream.memory in λ k. record {
+line_closed f line same kept said = let m = f.stream.memory in λ k. record {
   used = f.used + 1;
   stream = record { line = begun []; memory = (kept ∙ ap (λ (r : Frame). (answered m r).memory) same) k };
   out = (said ∙ ap (λ (r : Frame). written f.out.bytes f.out.at (answered m r).line) same) k;
@@ -63,15 +63,15 @@ line-closed f line same kept said = let m = f.stream.memory in λ k. record {
 pub loop-i-preserved : goal.loop-i-preserved
 loop-i-preserved c =
     let j = c.loop-i in
-    let f = fedIn (stream_in j.book j.parameters j.line j.held) j.out j.at j.i in
+    let f = fed_in (stream_in j.book j.parameters j.line j.held) j.out j.at j.i in
     let a = c.answer-at.ensures in
     record {
       inside = omega arith;
-      room = written-inside f.out _ a.said j.invariant.room;
+      room = written_inside f.out _ a.said j.invariant.room;
       long = omega arith;
       counted = λ _. omega arith;
       rest = j.invariant.rest ∙ line_taken _ _ c.loop-i-test.true c.if-piece-i-ne-NEWLINE.false (omega arith)
-          (line-closed f j.line c.frame_held.ensures a.kept a.said);
+          (line_closed f j.line c.frame_held.ensures a.kept a.said);
     }
 
 pub returns : goal.returns
