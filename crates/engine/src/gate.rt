@@ -5,7 +5,8 @@ ghost use Rattle.whole.specs.Refusals.{first_code};
 ghost use Rattle.rates.specs.Lent.{lent, given};
 ghost use Rattle.book.specs.AtAccount.{InBook};
 ghost use Rattle.engine.specs.State.{state};
-ghost use Rattle.engine.specs.Refused.{place_of, book_gate, table_gate, block_refusals, holding_refusals, report_refusals, figures_at, limit_of, enough, raised};
+ghost use Rattle.engine.specs.Refused.{place_of, book_gate, table_gate, block_refusals, holding_refusals, report_refusals};
+ghost use Rattle.engine.specs.Refused.{figures_at, limit_of, enough, raised};
 ghost use Rattle.engine.specs.Ranges.{Judgeable};
 
 use book::in_block;

@@ -2,7 +2,8 @@ ghost use Rattle.std.specs.Prelude.{◌≡◌, true, length};
 ghost use Rattle.whole.specs.Marks.{first_false, place_from, all_true, pieces};
 ghost use Rattle.rates.specs.Units.{assets, row_length, table_length, group_count};
 ghost use Rattle.rates.specs.Lent.{given};
-ghost use Rattle.rates.specs.Tables.{own_kind_right, own_row_marks, clearing_marks, own_marks, table_marks, sound_own, stricter_own_row, stricter_at, lengths_right, checked};
+ghost use Rattle.rates.specs.Tables.{own_kind_right, own_row_marks, clearing_marks, own_marks, table_marks, sound_own};
+ghost use Rattle.rates.specs.Tables.{stricter_own_row, stricter_at, lengths_right, checked};
 
 use crate::units::{GROUPS, OWN, PLACES};
 use crate::{in_row, row, stricter, units};

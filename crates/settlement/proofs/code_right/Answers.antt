@@ -7,6 +7,5 @@ use Rattle.settlement.proofs.code_right.Goals as goal
 
 pub returns-then-on_no_code : goal.returns-then-on_no_code
 returns-then-on_no_code c =
-    let t = c.before.before in
     c.block_right.ensures ∙ ap good_block c.block_of.ensures.0
-    ∙ sym (alone_right _ _ t.requires.below (no_code_unshared _ _ (passed t.on_no_code.ensures t.if-on_no_code.true)))
+    ∙ sym (alone_right _ _ c.requires.below (no_code_unshared _ _ (passed c.on_no_code.ensures c.if-on_no_code.true)))

@@ -44,10 +44,9 @@ module _ (c : Else-not-on_code) where
   free : c.loop-j.count < 4
   free =
       let l = c.loop-j in
-      let s = c.before.before.before.before.before in
-      let on = on_code s.args.book.now s.args.i in
-      let counted = ap (λ (m : Members). m.count) l.invariant.1 ∙ list_count on (kind_at s.args.book.now s.args.i) l.j in
-      omega (arith, counted, s.requires.few, room_before on l.j 16 (omega arith) here)
+      let on = on_code c.args.book.now c.args.i in
+      let counted = ap (λ (m : Members). m.count) l.invariant.1 ∙ list_count on (kind_at c.args.book.now c.args.i) l.j in
+      omega (arith, counted, c.requires.few, room_before on l.j 16 (omega arith) here)
 
 pub offset_bounds-at-count : goal.offset_bounds-at-count
 offset_bounds-at-count c = omega (arith, free c)

@@ -11,7 +11,6 @@ returns-then-not-on_code c = where_not _ _ (taken c.on_code.ensures c.if-not-on_
 
 pub returns : goal.returns
 returns c =
-    let e = c.before.before in
     c.holds_listed.ensures
-    ∙ ap (λ (b : List ℤ). holds_listed b e.args.clearing.now) c.block_of.ensures.0
-    ∙ where_so _ _ (left e.on_code.ensures e.if-not-on_code.false-raw)
+    ∙ ap (λ (b : List ℤ). holds_listed b c.args.clearing.now) c.block_of.ensures.0
+    ∙ where_so _ _ (left c.on_code.ensures c.if-not-on_code.false-raw)

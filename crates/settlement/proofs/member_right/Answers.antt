@@ -13,5 +13,4 @@ returns-then-not-block_right c =
 pub returns : goal.returns
 unfolding member_right
 returns c =
-    let e = c.before in
-    and_then _ _ (ap good_block (sym e.block_of.ensures.0) ∙ left e.block_right.ensures e.if-not-block_right.false-raw) c.same_kind.ensures
+    and_then _ _ (ap good_block (sym c.block_of.ensures.0) ∙ left c.block_right.ensures c.if-not-block_right.false-raw) c.same_kind.ensures

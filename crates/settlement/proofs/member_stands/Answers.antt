@@ -14,8 +14,7 @@ stands clearing block = good_block block && holds_listed block clearing
 
 pub returns-then-not-block_stands : goal.returns-then-not-block_stands
 returns-then-not-block_stands c =
-    let s = c.before.before in
-    let asked = ap (stands s.args.clearing.now) (sym s.block_of.ensures.0) in
+    let asked = ap (stands c.args.clearing.now) (sym c.block_of.ensures.0) in
     sym (first_out _ _ (asked ∙ taken c.block_stands.ensures c.if-not-block_stands.true-raw)) ∙ member_and_listed _ _ _ _
 
 pub returns : goal.returns

@@ -14,15 +14,13 @@ loop-j-preserved-then-not-on_code c = off_looked c.loop-j.invariant (omega arith
 
 pub loop-j-preserved : goal.loop-j-preserved
 loop-j-preserved c =
-    let e = c.before.before in
-    on_looked e.loop-j.invariant (omega arith) (left e.on_code.ensures e.if-not-on_code.false-raw)
+    on_looked c.loop-j.invariant (omega arith) (left c.on_code.ensures c.if-not-on_code.false-raw)
     (left c.member_right.ensures c.if-not-member_right.false-raw)
 
 pub returns-then-not-member_right : goal.returns-then-not-member_right
 unfolding code_right
 returns-then-not-member_right c =
-    let e = c.before.before in
-    out_looked e.loop-j.invariant (omega arith) (left e.on_code.ensures e.if-not-on_code.false-raw)
+    out_looked c.loop-j.invariant (omega arith) (left c.on_code.ensures c.if-not-on_code.false-raw)
     (taken c.member_right.ensures c.if-not-member_right.true-raw)
 
 pub returns : goal.returns

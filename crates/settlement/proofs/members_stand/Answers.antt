@@ -15,14 +15,12 @@ loop-j-preserved-then-not-on_code c = off_looked c.loop-j.invariant (omega arith
 
 pub loop-j-preserved : goal.loop-j-preserved
 loop-j-preserved c =
-    let e = c.before.before in
-    on_looked e.loop-j.invariant (omega arith) (left e.on_code.ensures e.if-not-on_code.false-raw)
+    on_looked c.loop-j.invariant (omega arith) (left c.on_code.ensures c.if-not-on_code.false-raw)
     (left c.member_stands.ensures c.if-not-member_stands.false-raw)
 
 pub returns-then-not-member_stands : goal.returns-then-not-member_stands
 returns-then-not-member_stands c =
-    let e = c.before.before in
-    out_looked e.loop-j.invariant (omega arith) (left e.on_code.ensures e.if-not-on_code.false-raw)
+    out_looked c.loop-j.invariant (omega arith) (left c.on_code.ensures c.if-not-on_code.false-raw)
     (taken c.member_stands.ensures c.if-not-member_stands.true-raw)
     ∙ right_and_listed _ _ _
 

@@ -17,8 +17,7 @@ returns-then-on_no_code c = off_no_code _ _ _ c.if-i-j.false (passed c.on_no_cod
 
 pub returns : goal.returns
 returns c =
-    let e = c.before.before.before.before in
     let code = sym (ap settlement_code c.block_of-own.ensures.0) ∙ sym (to_z-of_z {w = w64} (sfits_of c.number_is-arg-1.given)) in
     let other = sym (ap settlement_code c.block_of.ensures.0) in
-    on_by_code _ _ _ e.if-i-j.false (failed e.on_no_code.ensures e.if-on_no_code.false)
+    on_by_code _ _ _ c.if-i-j.false (failed c.on_no_code.ensures c.if-on_no_code.false)
     (c.number_is.ensures ∙ sym (λ t. between (code t) (other t) (code t)))

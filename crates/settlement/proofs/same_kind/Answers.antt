@@ -9,7 +9,6 @@ use Rattle.settlement.proofs.same_kind.Goals as goal
 
 pub returns : goal.returns
 returns c =
-    let own = c.before.before in
-    let kind = to_z-of_z {w = w64} (sfits_of c.number_is-arg-1.given) ∙ ap account_kind own.block_of-own.ensures.0 in
-    let other = ap account_kind own.block_of-block.ensures.0 in
+    let kind = to_z-of_z {w = w64} (sfits_of c.number_is-arg-1.given) ∙ ap account_kind c.block_of-own.ensures.0 in
+    let other = ap account_kind c.block_of-block.ensures.0 in
     c.number_is.ensures ∙ (λ t. between (kind t) (other t) (kind t))

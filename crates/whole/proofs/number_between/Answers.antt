@@ -6,5 +6,4 @@ use Rattle.whole.proofs.number_between.Goals as goal
 
 pub returns : goal.returns
 returns c =
-    let s = c.before.before in
-    c.lies_between.ensures ∙ between_back s.ranges.low (sfits_of c.lies_between-arg-1.given) s.ranges.high
+    c.lies_between.ensures ∙ between_back c.ranges.low (sfits_of c.lies_between-arg-1.given) c.ranges.high

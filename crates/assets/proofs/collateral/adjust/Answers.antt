@@ -15,9 +15,8 @@ returns-in-Special c = (rw c.in-Special.is refl, omega ints)
 
 pub returns-in-NotRecorded : goal.returns-in-NotRecorded
 returns-in-NotRecorded c =
-    let s = c in
-    let e : c.lesser.result ≡ min_ℤ (pos 0) s.args.held = c.lesser.ensures.0 ∙ ap (min_ℤ (pos 0)) (to_z-of_z s.ranges.held) in
-    let h = s.requires.1 in
+    let e : c.lesser.result ≡ min_ℤ (pos 0) c.args.held = c.lesser.ensures.0 ∙ ap (min_ℤ (pos 0)) (to_z-of_z c.ranges.held) in
+    let h = c.requires.1 in
     rw (to_z-of_z c.lesser.ensures.1, c.in-NotRecorded.is) (e, omega ints)
 
 -- what the regime carries
@@ -29,22 +28,20 @@ share_accepted c = subst ShareRange c.in-Accepted.is c.requires.0
 
 pub counted_of-requires : goal.counted_of-requires
 counted_of-requires c =
-    let s = c in
-    rw (to_z-of_z (share_partial c).fits, to_z-of_z s.ranges.held, to_z-of_z s.ranges.net) (share_partial c, s.requires.1, s.requires.2)
+    rw (to_z-of_z (share_partial c).fits, to_z-of_z c.ranges.held, to_z-of_z c.ranges.net) (share_partial c, c.requires.1, c.requires.2)
 
 pub counted_of-requires-in-Accepted : goal.counted_of-requires-in-Accepted
 counted_of-requires-in-Accepted c =
-    let s = c in
-    rw (to_z-of_z (share_accepted c).fits, to_z-of_z s.ranges.held, to_z-of_z s.ranges.net) (share_accepted c, s.requires.1, s.requires.2)
+    rw (to_z-of_z (share_accepted c).fits, to_z-of_z c.ranges.held, to_z-of_z c.ranges.net) (share_accepted c, c.requires.1, c.requires.2)
 
 pub returns-in-Partial : goal.returns-in-Partial
 returns-in-Partial c =
-    let s = c in let r = c.counted_of.ensures in
+    let r = c.counted_of.ensures in
     rw (to_z-of_z r.1.fits, c.in-Partial.is)
-    (r.0 ∙ (λ i. counted (to_z-of_z (share_partial c.before).fits i) (to_z-of_z s.ranges.held i) (to_z-of_z s.ranges.net i)), r.1)
+    (r.0 ∙ (λ i. counted (to_z-of_z (share_partial c.before).fits i) (to_z-of_z c.ranges.held i) (to_z-of_z c.ranges.net i)), r.1)
 
 pub returns-in-Accepted : goal.returns-in-Accepted
 returns-in-Accepted c =
-    let s = c in let r = c.counted_of-in-Accepted.ensures in
+    let r = c.counted_of-in-Accepted.ensures in
     rw (to_z-of_z r.1.fits, c.in-Accepted.is)
-    (r.0 ∙ (λ i. counted (to_z-of_z (share_accepted c.before).fits i) (to_z-of_z s.ranges.held i) (to_z-of_z s.ranges.net i)), r.1)
+    (r.0 ∙ (λ i. counted (to_z-of_z (share_accepted c.before).fits i) (to_z-of_z c.ranges.held i) (to_z-of_z c.ranges.net i)), r.1)

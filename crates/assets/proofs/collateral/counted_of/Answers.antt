@@ -28,11 +28,10 @@ owned_upto c =
     let m = is (lit 0 ⊔ var c.args.held) in
     record { low = omega ints; high = omega ints; fits = c.greater-owned.ensures.1 }
 
-free : (c : After-greater-free) → let o = c.before.before in c.greater-free.result ≡ max_ℤ (pos 0) (min_ℤ o.args.net o.greater-owned.result)
+free : (c : After-greater-free) → c.greater-free.result ≡ max_ℤ (pos 0) (min_ℤ c.args.net c.greater-owned.result)
 free c =
-    let o = c in
     let least = c.lesser.ensures in
-    c.greater-free.ensures.0 ∙ ap (max_ℤ (pos 0)) (to_z-of_z least.1 ∙ least.0 ∙ clean₂ min_ℤ o.ranges.net o.greater-owned.ensures.1)
+    c.greater-free.ensures.0 ∙ ap (max_ℤ (pos 0)) (to_z-of_z least.1 ∙ least.0 ∙ clean₂ min_ℤ c.ranges.net c.greater-owned.ensures.1)
 
 -- nothing more is free than is owned
 free_range : (net owned free : ℤ) → owned upto 1000000 → free ≡ max_ℤ (pos 0) (min_ℤ net owned) → free upto 1000000
@@ -55,7 +54,7 @@ product_range c = product_upto c.requires.0 (owned_upto c.before.before) (omega 
 product_ok : (c : After-greater-free) → Runs (product c)
 product_ok c = omega (ints, is (product c), product_range c, c.requires.0, owned_upto c.before.before)
 
-part : (c : After-divided_down-taken) → let o = c in c.divided_down-taken.result ≡ taken o.args.share o.greater-owned.result
+part : (c : After-divided_down-taken) → c.divided_down-taken.result ≡ taken c.args.share c.greater-owned.result
 part c = c.divided_down-taken.ensures.0 ∙ ap (λ (z : ℤ). divided_down z 10000) (runs (product c.before) (product_ok c.before))
 
 pub divided_down-taken-requires : goal.divided_down-taken-requires

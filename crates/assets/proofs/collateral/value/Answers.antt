@@ -11,10 +11,10 @@ negative : (c : After-lesser) → c.lesser.result ≡ min_ℤ (pos 0) c.args.c
 negative c = rw (to_z-of_z c.ranges.c) at c.lesser.ensures.0
 
 pub returns-in-Special : goal.returns-in-Special
-returns-in-Special c = let s = c in rw (to_z-of_z s.ranges.c, c.in-Special.is) (refl, s.requires)
+returns-in-Special c = rw (to_z-of_z c.ranges.c, c.in-Special.is) (refl, c.requires)
 
 pub returns-in-NotRecorded : goal.returns-in-NotRecorded
-returns-in-NotRecorded c = let s = c in rw (to_z-of_z s.ranges.c, c.in-NotRecorded.is) (refl, s.requires)
+returns-in-NotRecorded c = rw (to_z-of_z c.ranges.c, c.in-NotRecorded.is) (refl, c.requires)
 
 pub returns-in-Partial : goal.returns-in-Partial
 returns-in-Partial c =
@@ -22,4 +22,4 @@ returns-in-Partial c =
     rw (to_z-of_z c.lesser.ensures.1, c.in-Partial.is) (e, omega ints)
 
 pub returns-in-Accepted : goal.returns-in-Accepted
-returns-in-Accepted c = let s = c in rw (to_z-of_z s.ranges.c, c.in-Accepted.is) (refl, s.requires)
+returns-in-Accepted c = rw (to_z-of_z c.ranges.c, c.in-Accepted.is) (refl, c.requires)

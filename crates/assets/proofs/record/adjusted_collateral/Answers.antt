@@ -38,8 +38,8 @@ overflow_add-held c = need! (whole c) (ok c)
 
 pub adjust-requires : goal.adjust-requires
 adjust-requires c =
-    let s = c in let h = s.requires.1.collateral_within in let t = traded_within c.before in
-    rw (runs (whole c) (ok c), to_z-of_z h.fits) (s.requires.0, h, omega (ints, is (whole c)))
+    let h = c.requires.1.collateral_within in let t = traded_within c.before in
+    rw (runs (whole c) (ok c), to_z-of_z h.fits) (c.requires.0, h, omega (ints, is (whole c)))
 
 pub returns : goal.returns
 unfolding adjusted_collateral

@@ -23,8 +23,7 @@ less c = var c.value-valued.result ⊖ var c.left_out-out.result
 ok : (c : After-left_out-out) → Runs (less c)
 ok c = let h = c.value-valued.ensures.1 in let k = c.left_out-out.ensures.1 in omega ints
 
-valued_is : (c : After-left_out-out) → let s = c in
-    held (less c) ≡ valued_collateral c.regime_of-regime.result s.args.kind s.args.row.now s.args.holding.now
+valued_is : (c : After-left_out-out) → held (less c) ≡ valued_collateral c.regime_of-regime.result c.args.kind c.args.row.now c.args.holding.now
 unfolding valued_collateral
 valued_is c =
     let a = c.adjusted_collateral-c.ensures in
@@ -36,8 +35,8 @@ overflow_sub-valued c = need! (less c) (ok c)
 
 pub worth_of-worth-requires : goal.worth_of-worth-requires
 worth_of-worth-requires c =
-    let s = c in let h = c.value-valued.ensures.1 in let k = c.left_out-out.ensures.1 in
-    rw (runs (less c) (ok c)) (s.requires.0, s.requires.1, omega (ints, is (less c)))
+    let h = c.value-valued.ensures.1 in let k = c.left_out-out.ensures.1 in
+    rw (runs (less c) (ok c)) (c.requires.0, c.requires.1, omega (ints, is (less c)))
 
 pub returns : goal.returns
 unfolding asset_under

@@ -16,8 +16,7 @@ use Rattle.assets.proofs.record.left_out.Goals.{After-lies_between, Else-not-num
 currency : (c : Else-not-number_is) → equal (kind c.args.row.now) (pos 2) ≡ true
 currency c = left c.number_is.ensures c.if-not-number_is.false-raw
 
-asked : (c : After-lies_between) → let s = c in
-    c.lies_between.result ≡ equal (share_in_force s.args.regime s.args.kind s.args.row.now) (pos 0)
+asked : (c : After-lies_between) → c.lies_between.result ≡ equal (share_in_force c.args.regime c.args.kind c.args.row.now) (pos 0)
 asked c = let h = c.share_in_force-share.ensures in rw (to_z-of_z h.1.fits, h.0) at c.lies_between.ensures
 
 pub returns-then-not-number_is : goal.returns-then-not-number_is

@@ -14,13 +14,11 @@ use Rattle.assets.proofs.record.position_of.Goals.{Start, Then-d-eq0}
 bounded : (c : Start) → position c.args.holding.now c.args.c c.args.d within 3000000
 bounded c = position_within _ _ c.requires.0 2000000 _ (omega arith) c.requires.2 c.requires.1
 
-first : (c : Then-d-eq0) → let s = c.before.before in
-    c.net_of-traded.result +ℤ s.args.c ≡ position s.args.holding.now s.args.c s.args.d
+first : (c : Then-d-eq0) → c.net_of-traded.result +ℤ c.args.c ≡ position c.args.holding.now c.args.c c.args.d
 first c =
-    let s = c in
     rw c.net_of-traded.ensures.0
-    (subst (λ (d : ℕ). net s.args.holding.now d +ℤ s.args.c ≡ position s.args.holding.now s.args.c d)
-    (sym c.if-d-eq0.true) (sym (position_first s.args.holding.now s.args.c)))
+    (subst (λ (d : ℕ). net c.args.holding.now d +ℤ c.args.c ≡ position c.args.holding.now c.args.c d)
+    (sym c.if-d-eq0.true) (sym (position_first c.args.holding.now c.args.c)))
 
 pub overflow_add-result : goal.overflow_add-result
 overflow_add-result c = omega ints

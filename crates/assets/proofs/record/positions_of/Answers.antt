@@ -19,7 +19,7 @@ loop-d-init c = (omega arith, refl, refl, filled_none _ _)
 
 pub position_of-requires : goal.position_of-requires
 position_of-requires c =
-    let s = c in rw (to_z-of_z s.ranges.c) (s.requires.0, omega arith, wider 2000000 s.requires.1 (omega arith))
+    rw (to_z-of_z c.ranges.c) (c.requires.0, omega arith, wider 2000000 c.requires.1 (omega arith))
 
 pub loop-d-preserved : goal.loop-d-preserved
 loop-d-preserved c =
@@ -32,6 +32,6 @@ loop-d-preserved c =
 
 pub returns : goal.returns
 returns c =
-    let s = c in let l = c.loop-d in let e : l.d ≡ 8 = omega arith in
-    l.invariant.3 ∙ ap (λ (n : ℕ). filled (position s.args.holding.now (back s.args.c)) n _) e ∙ filled_all _ 8 _ l.invariant.2
-    ∙ ap (λ (x : ℤ). tabulated 8 (position s.args.holding.now x)) (to_z-of_z s.ranges.c)
+    let l = c.loop-d in let e : l.d ≡ 8 = omega arith in
+    l.invariant.3 ∙ ap (λ (n : ℕ). filled (position c.args.holding.now (back c.args.c)) n _) e ∙ filled_all _ 8 _ l.invariant.2
+    ∙ ap (λ (x : ℤ). tabulated 8 (position c.args.holding.now x)) (to_z-of_z c.ranges.c)

@@ -26,9 +26,8 @@ date_sum c =
 
 date_runs : (c : After-positions-in-loop-d-1) → Runs (date_sum c)
 date_runs c =
-    let s = c in
     let d = c.loop-d.d in
-    sum_runs ((positions_range 3 _ s.requires.0 (omega arith)).each d (omega arith)) ((positions_range 1 _ s.requires.1 (omega arith)).each d (omega arith))
+    sum_runs ((positions_range 3 _ c.requires.0 (omega arith)).each d (omega arith)) ((positions_range 1 _ c.requires.1 (omega arith)).each d (omega arith))
     (omega arith)
 
 pub loop-d-preserved : goal.loop-d-preserved

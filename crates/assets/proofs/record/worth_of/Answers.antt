@@ -6,7 +6,7 @@ use Rattle.assets.proofs.record.worth_of.Goals as goal
 
 pub worth_of_date-sum-requires : goal.worth_of_date-sum-requires
 worth_of_date-sum-requires c =
-    let s = c in rw (to_z-of_z s.ranges.c) (s.requires.0, s.requires.1, s.requires.2, omega arith)
+    rw (to_z-of_z c.ranges.c) (c.requires.0, c.requires.1, c.requires.2, omega arith)
 
 pub returns : goal.returns
 returns c = rw (to_z-of_z c.ranges.c) at (ends withins c.loop-d.invariant (omega arith))

@@ -13,11 +13,9 @@ use Rattle.assets.proofs.risk.long_sum.Goals as goal
 use Rattle.assets.proofs.risk.long_sum.Goals.{After-greater-sum}
 
 -- the number that is added
-next : (c : After-greater-sum) → let s = c.before.before.before in
-    (c.greater-sum.result ≡ long (number s.args.positions s.loop-d.d)) × (c.greater-sum.result upto 8000000)
+next : (c : After-greater-sum) → (c.greater-sum.result ≡ long (number c.args.positions c.loop-d.d)) × (c.greater-sum.result upto 8000000)
 next c =
-    let s = c in
-    let h = s.requires.each s.loop-d.d (omega arith) in
+    let h = c.requires.each c.loop-d.d (omega arith) in
     let r = c.greater-sum.ensures in
     (r.0 ∙ ap (max_ℤ (pos 0)) (to_z-of_z h.fits), omega ints)
 

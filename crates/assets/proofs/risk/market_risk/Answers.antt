@@ -24,7 +24,7 @@ sum_is : (c : Start) → back c.args.sum ≡ position_sum c.args.x.positions
 sum_is c = to_z-of_z c.ranges.sum ∙ c.requires.2
 
 -- the short dates, as code makes them of the long dates and the sum
-shorts : (c : After-long_sum-longs) → let s = c in back c.long_sum-longs.result -ℤ back s.args.sum ≡ short_sum s.args.x.positions
+shorts : (c : After-long_sum-longs) → back c.long_sum-longs.result -ℤ back c.args.sum ≡ short_sum c.args.x.positions
 shorts c =
     let longs = c.long_sum-longs.ensures in
     ap₂ ◌-ℤ◌ (to_z-of_z longs.1.fits ∙ longs.0) (sum_is c.before.before.before.before) ∙ shorts_are _
@@ -60,15 +60,14 @@ plain c = failed c.is_special.ensures c.if-is_special.false
 
 -- the sum's size
 pub size-requires : goal.size-requires
-size-requires c = let s = c in rw (to_z-of_z s.ranges.sum) (let l = s.requires.3.size in omega arith)
+size-requires c = rw (to_z-of_z c.ranges.sum) (let l = c.requires.3.size in omega arith)
 
-sized : (c : After-size) → let s = c in c.size.result ≡ abs_ℤ (position_sum s.args.x.positions)
+sized : (c : After-size) → c.size.result ≡ abs_ℤ (position_sum c.args.x.positions)
 sized c = c.size.ensures.0 ∙ ap abs_ℤ (sum_is c.before.before.before.before)
 
 sized_upto : (c : After-size) → c.size.result upto 64000000
 sized_upto c =
-    let s = c in
-    rw c.size.ensures.0 (size_upto (subst (λ (z : ℤ). z within 64000000) (sym (to_z-of_z s.ranges.sum)) s.requires.3) (omega arith))
+    rw c.size.ensures.0 (size_upto (subst (λ (z : ℤ). z within 64000000) (sym (to_z-of_z c.ranges.sum)) c.requires.3) (omega arith))
 
 pub side_risk-requires : goal.side_risk-requires
 side_risk-requires c = (c.requires.0, c.side_of.ensures.1, upto_back (sized_upto c))

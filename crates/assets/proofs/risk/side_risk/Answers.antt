@@ -36,9 +36,8 @@ divided_up-requires c = let h = product_range c in rw (runs (product c) (ok c)) 
 pub returns : goal.returns
 unfolding side_risk market_charge
 returns c =
-    let s = c in
-    let row = s.args.row.now in
-    let charged = c.units_charge-charged.ensures.0 ∙ ap (units_charge row s.args.side) (to_z-of_z s.ranges.n) in
+    let row = c.args.row.now in
+    let charged = c.units_charge-charged.ensures.0 ∙ ap (units_charge row c.args.side) (to_z-of_z c.ranges.n) in
     let r = c.divided_up.ensures in
     let e = to_z-of_z r.1 ∙ r.0 ∙ ap (λ (z : ℤ). divided_up z 10000) (runs (product c.before) (ok c.before) ∙ ap (λ (z : ℤ). z *ℤ price row) charged) in
-    (e, subst (λ (z : ℤ). z upto 640000000000000) (sym e) (side_upto _ s.requires.0 s.args.side s.requires.1 s.requires.2 (omega arith)))
+    (e, subst (λ (z : ℤ). z upto 640000000000000) (sym e) (side_upto _ c.requires.0 c.args.side c.requires.1 c.requires.2 (omega arith)))

@@ -18,21 +18,19 @@ rate h = upto_within (upto_back (upto_wider 10000000 h (omega arith)))
 
 pub charge_of-requires : goal.charge_of-requires
 charge_of-requires c =
-    let s = c in
-    let r = s.requires.0 in
-    let rates = r.side s.args.side s.requires.1 in
-    (rate rates.base_upto, rate rates.raised_upto, upto_back r.market_upto, upto_back s.requires.2)
+    let r = c.requires.0 in
+    let rates = r.side c.args.side c.requires.1 in
+    (rate rates.base_upto, rate rates.raised_upto, upto_back r.market_upto, upto_back c.requires.2)
 
 pub returns : goal.returns
 unfolding units_charge
 returns c =
-    let s = c in
-    let p = s.requires in
-    let rates = p.0.side s.args.side p.1 in
+    let p = c.requires in
+    let rates = p.0.side c.args.side p.1 in
     let base = to_z-of_z rates.base_upto.fits in
     let raised = to_z-of_z rates.raised_upto.fits in
     let limit = to_z-of_z p.0.market_upto.fits in
-    let units = to_z-of_z s.ranges.n in
+    let units = to_z-of_z c.ranges.n in
     let r = c.charge_of.ensures.value in
     let e = to_z-of_z r.1.fits ∙ r.0 ∙ (λ i. charge (base i) (raised i) (limit i) (units i)) in
-    (e, subst (λ (z : ℤ). z upto 640000000000) (sym e) (slope_upto 10000 (side_slope _ p.0 s.args.side p.1) rates.highest_upto.high p.2 (omega arith)))
+    (e, subst (λ (z : ℤ). z upto 640000000000) (sym e) (slope_upto 10000 (side_slope _ p.0 c.args.side p.1) rates.highest_upto.high p.2 (omega arith)))

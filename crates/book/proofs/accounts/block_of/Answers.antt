@@ -8,5 +8,5 @@ use Rattle.book.proofs.AtAccount.{of_lent, block_long}
 use Rattle.book.proofs.accounts.block_of.Goals as goal
 
 pub returns : goal.returns
-returns c = let s = c.before in let b = s.args.book.now in
-    (lent_block _ _, of_lent b s.args.i (λ (l : List ℤ). length l ≡ 288) (block_long b s.args.i s.requires))
+returns c = let b = c.args.book.now in
+    (lent_block _ _, of_lent b c.args.i (λ (l : List ℤ). length l ≡ 288) (block_long b c.args.i c.requires))

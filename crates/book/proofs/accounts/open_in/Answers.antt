@@ -9,9 +9,9 @@ use Rattle.book.proofs.AtAccount.{lent, back_at, of_lent, block_long}
 use Rattle.book.proofs.accounts.open_in.Goals as goal
 
 pub open-requires : goal.open-requires
-open-requires c = let s = c.before in let a = s.args in of_lent a.book.now a.i (λ (b : List ℤ). length b ≡ 288) (block_long a.book.now a.i s.requires)
+open-requires c = let a = c.args in of_lent a.book.now a.i (λ (b : List ℤ). length b ≡ 288) (block_long a.book.now a.i c.requires)
 
 pub returns : goal.returns
-returns c = let s = c.before.before.before in let a = s.args in
+returns c = let a = c.args in
     back_at a.book.now a.i (λ b. opened b a.kind a.code)
-    (c.before.«open».ensures ∙ ap₂ (opened (lent a.book.now a.i)) (to_z-of_z s.ranges.kind) (to_z-of_z s.ranges.code))
+    (c.«open».ensures ∙ ap₂ (opened (lent a.book.now a.i)) (to_z-of_z c.ranges.kind) (to_z-of_z c.ranges.code))

@@ -5,8 +5,8 @@ use Rattle.book.proofs.AtAccount.{back_at, of_lent}
 use Rattle.book.proofs.accounts.roll_in.Goals as goal
 
 pub roll-requires : goal.roll-requires
-roll-requires c = let s = c.before in of_lent s.args.book.now s.args.i Bounded s.requires.1
+roll-requires c = of_lent c.args.book.now c.args.i Bounded c.requires.1
 
 pub returns : goal.returns
-returns c = let s = c.before.before.before in let a = s.args in
+returns c = let a = c.args in
     back_at a.book.now a.i rolled c.roll.ensures

@@ -7,8 +7,8 @@ use Rattle.book.proofs.AtAccount.{back_at, of_lent}
 use Rattle.book.proofs.accounts.trade_in.Goals as goal
 
 pub book_trade-requires : goal.book_trade-requires
-book_trade-requires c = let s = c.before in of_lent s.args.book.now s.args.i (λ (b : List ℤ). Tradable b s.args.t) s.requires.1
+book_trade-requires c = of_lent c.args.book.now c.args.i (λ (b : List ℤ). Tradable b c.args.t) c.requires.1
 
 pub returns : goal.returns
-returns c = let s = c.before.before.before in let a = s.args in
+returns c = let a = c.args in
     back_at a.book.now a.i (λ b. traded b a.t) c.book_trade.ensures

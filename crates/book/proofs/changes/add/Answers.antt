@@ -12,4 +12,4 @@ overflow_add-block c = let p = c.requires in omega ints
 
 pub returns : goal.returns
 unfolding added
-returns c = let s = c.before in ap (λ (z : ℤ). set s.args.block.now s.args.k z) (summed s.requires.1 s.requires.2)
+returns c = ap (λ (z : ℤ). set c.args.block.now c.args.k z) (summed c.requires.1 c.requires.2)

@@ -5,9 +5,8 @@ use Rattle.book.proofs.Amounts.{sum_fits, summed}
 use Rattle.book.proofs.changes.fits_after.Goals as goal
 
 pub overflow_add-block : goal.overflow_add-block
-overflow_add-block c = let s = c.before in sum_fits s.requires.1 s.requires.2
+overflow_add-block c = sum_fits c.requires.1 c.requires.2
 
 pub returns : goal.returns
 returns c =
-    let s = c.before.before in
-    c.lies_between.ensures ∙ simp (summed s.requires.1 s.requires.2, to_z-of_z s.ranges.low, to_z-of_z s.ranges.high)
+    c.lies_between.ensures ∙ simp (summed c.requires.1 c.requires.2, to_z-of_z c.ranges.low, to_z-of_z c.ranges.high)

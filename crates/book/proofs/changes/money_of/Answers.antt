@@ -12,12 +12,10 @@ overflow_sub-result c = negative_fits c.requires.money_within
 
 pub returns-then-t-eq0 : goal.returns-then-t-eq0
 returns-then-t-eq0 c =
-    let s = c.before.before.before.before in
-    let e = negated s.requires.money_within ∙ sym (money_buy s.args.t c.if-t-eq0.true) in
-    (e, subst (λ (z : ℤ). z within large) (sym e) (money_within s.requires))
+    let e = negated c.requires.money_within ∙ sym (money_buy c.args.t c.if-t-eq0.true) in
+    (e, subst (λ (z : ℤ). z within large) (sym e) (money_within c.requires))
 
 pub returns : goal.returns
 returns c =
-    let s = c.before.before.before in
-    let e = to_z-of_z s.requires.money_within.fits ∙ sym (money_sell s.args.t c.if-t-eq0.false) in
-    (e, subst (λ (z : ℤ). z within large) (sym e) (money_within s.requires))
+    let e = to_z-of_z c.requires.money_within.fits ∙ sym (money_sell c.args.t c.if-t-eq0.false) in
+    (e, subst (λ (z : ℤ). z within large) (sym e) (money_within c.requires))

@@ -11,13 +11,12 @@ use Rattle.book.proofs.Moves.{before_move}
 use Rattle.book.proofs.changes.move_collateral.Goals as goal
 
 pub add-requires : goal.add-requires
-add-requires c = let s = c.before.before in let e = c.move_at.ensures in (
-  omega (arith, e.1, s.requires.bounded.long),
-  rw e.0 (before_move _ _ _ s.requires),
-  subst (λ (z : ℤ). z within large) (sym (to_z-of_z s.ranges.amount)) s.requires.amount_within,
+add-requires c = let e = c.move_at.ensures in (
+  omega (arith, e.1, c.requires.bounded.long),
+  rw e.0 (before_move _ _ _ c.requires),
+  subst (λ (z : ℤ). z within large) (sym (to_z-of_z c.ranges.amount)) c.requires.amount_within,
 )
 
 pub returns : goal.returns
 unfolding moved
-returns c = let s = c.before.before.before.before in
-    c.add.ensures ∙ ap₂ (λ (k : ℕ) (z : ℤ). added s.args.block.now k z) c.move_at.ensures.0 (to_z-of_z s.ranges.amount)
+returns c = c.add.ensures ∙ ap₂ (λ (k : ℕ) (z : ℤ). added c.args.block.now k z) c.move_at.ensures.0 (to_z-of_z c.ranges.amount)

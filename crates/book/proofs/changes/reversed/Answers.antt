@@ -30,4 +30,4 @@ made t r = λ i. record {
 }
 
 pub returns : goal.returns
-returns c = let s = c.before.before.before.before in let e = made s.args.t s.requires in (e, subst TradeRanges (sym e) (reversed_ranges s.requires))
+returns c = let e = made c.args.t c.requires in (e, subst TradeRanges (sym e) (reversed_ranges c.requires))

@@ -14,10 +14,10 @@ use Rattle.book.proofs.Trades.{net_at, quantity_inside, net_inside, quantity_bef
 use Rattle.book.proofs.changes.trade_fits.Goals as goal
 
 pub fits_after-requires : goal.fits_after-requires
-fits_after-requires c = let s = c.before.before in let e = c.trade_at.ensures in (
-  rw e (quantity_inside _ s.requires.ranges s.args.block.now s.requires.bounded.long),
-  rw e (quantity_before _ _ s.requires),
-  subst (λ (z : ℤ). z within large) (sym (to_z-of_z s.requires.ranges.quantity_within.fits)) (wider large s.requires.ranges.quantity_within (omega arith)),
+fits_after-requires c = let e = c.trade_at.ensures in (
+  rw e (quantity_inside _ c.requires.ranges c.args.block.now c.requires.bounded.long),
+  rw e (quantity_before _ _ c.requires),
+  subst (λ (z : ℤ). z within large) (sym (to_z-of_z c.requires.ranges.quantity_within.fits)) (wider large c.requires.ranges.quantity_within (omega arith)),
 )
 
 pub returns-then-not-fits_after : goal.returns-then-not-fits_after
@@ -26,16 +26,16 @@ returns-then-not-fits_after c =
     sym (quantity_out _ _ c.requires (taken tested c.if-not-fits_after.true-raw))
 
 pub fits_after-requires-2 : goal.fits_after-requires-2
-fits_after-requires-2 c = let s = c.before.before.before.before.before.before in let m = c.money_of-money.ensures in (
-  net_inside _ s.requires.ranges s.args.block.now s.requires.bounded.long,
-  net_before _ _ s.requires,
+fits_after-requires-2 c = let m = c.money_of-money.ensures in (
+  net_inside _ c.requires.ranges c.args.block.now c.requires.bounded.long,
+  net_before _ _ c.requires,
   subst (λ (z : ℤ). z within large) (sym (to_z-of_z m.1.fits)) m.1,
 )
 
 pub returns : goal.returns
 returns c =
     let tested = c.fits_after.ensures ∙ ap₂ (λ (k : ℕ) (z : ℤ). quantity_right (number c.args.block.now k +ℤ z)) c.trade_at.ensures (to_z-of_z c.requires.ranges.quantity_within.fits) in
-    let s = c in let m = c.money_of-money.ensures in
+    let m = c.money_of-money.ensures in
     c.fits_after-2.ensures
-    ∙ ap (λ (z : ℤ). rubles_right (number s.args.block.now (net_at s.args.t) +ℤ z)) (to_z-of_z m.1.fits ∙ m.0)
-    ∙ sym (net_alone _ _ s.requires (left tested c.if-not-fits_after.false-raw))
+    ∙ ap (λ (z : ℤ). rubles_right (number c.args.block.now (net_at c.args.t) +ℤ z)) (to_z-of_z m.1.fits ∙ m.0)
+    ∙ sym (net_alone _ _ c.requires (left tested c.if-not-fits_after.false-raw))

@@ -10,8 +10,7 @@ place_of-j-requires c = let few = c.requires.0.few in (c.requires.0.room, omega 
 
 pub block_of-requires : goal.block_of-requires
 block_of-requires c =
-    let s = c.before in
-    record { long = s.requires.0.long; below = subst (λ (j : ℕ). j < 16) (sym c.place_of-j.ensures) (s.requires.0.below s.args.k s.requires.1) }
+    record { long = c.requires.0.long; below = subst (λ (j : ℕ). j < 16) (sym c.place_of-j.ensures) (c.requires.0.below c.args.k c.requires.1) }
 
 pub returns : goal.returns
 returns c = c.block_of.ensures.0 ∙ ap (block_of c.args.book.now) c.place_of-j.ensures

@@ -11,8 +11,7 @@ use Rattle.book.proofs.rolling.roll.Goals.{At-loop-a}
 
 -- the block at the loop's test, from the block that was found
 so_far : (c : At-loop-a) → c.loop-a.block ≡ rolled_to c.loop-a.a c.args.block.now
-so_far c = let s = c.before.before.before.before in
-    c.loop-a.invariant.2 s.args.block.now s.requires.long (to_begin s.args.block.now s.requires.long _ c.roll_rubles.ensures)
+so_far c = c.loop-a.invariant.2 c.args.block.now c.requires.long (to_begin c.args.block.now c.requires.long _ c.roll_rubles.ensures)
 
 pub roll_rubles-requires : goal.roll_rubles-requires
 unfolding part
@@ -40,6 +39,5 @@ shape_of-block c = c.loop-a.invariant.0 ∙ sym c.requires.long
 
 pub returns : goal.returns
 returns c =
-    let s = c.before.before.before.before.before in
     let e : c.loop-a.a ≡ 16 = omega arith in
-    so_far c.before ∙ ap (λ (n : ℕ). rolled_to n s.args.block.now) e ∙ sym (rolled_to_lem s.args.block.now s.requires.long)
+    so_far c.before ∙ ap (λ (n : ℕ). rolled_to n c.args.block.now) e ∙ sym (rolled_to_lem c.args.block.now c.requires.long)

@@ -15,6 +15,5 @@ returns-then-not-head_right c =
 
 pub returns : goal.returns
 returns c =
-    let h = c.before.before in
-    and_then _ _ (left h.head_right.ensures c.if-not-head_right.false-raw) c.in_bounds.ensures
-    ∙ sym (good_open _ (failed h.number_is.ensures h.if-number_is.false))
+    and_then _ _ (left c.head_right.ensures c.if-not-head_right.false-raw) c.in_bounds.ensures
+    ∙ sym (good_open _ (failed c.number_is.ensures c.if-number_is.false))

@@ -10,8 +10,7 @@ returns-then-number_is c = c.is_empty.ensures ∙ stands_closed _ _ (passed c.nu
 
 pub returns-then-not-head_right : goal.returns-then-not-head_right
 returns-then-not-head_right c =
-    let e = c.before.before in
-    sym (stands_open _ _ (failed e.number_is.ensures e.if-number_is.false) ∙ first_out _ _ (taken c.head_right.ensures c.if-not-head_right.true-raw))
+    sym (stands_open _ _ (failed c.number_is.ensures c.if-number_is.false) ∙ first_out _ _ (taken c.head_right.ensures c.if-not-head_right.true-raw))
 
 pub returns-then-not-rubles_right : goal.returns-then-not-rubles_right
 returns-then-not-rubles_right c =

@@ -15,7 +15,5 @@ returns-then-not-number_between c = sym (first_out _ _ (taken c.number_between.e
 pub returns : goal.returns
 unfolding holding_right
 returns c =
-    let s = c.before.before.before.before in
-    let p = c.before.before in
-    and_then _ _ (left p.number_between.ensures p.if-not-number_between.false-raw)
-    (c.all_between.ensures ∙ ap (λ (l : List ℤ). all_true (map quantity_right l)) (up_to 1 17 s.args.holding.now s.requires))
+    and_then _ _ (left c.number_between.ensures c.if-not-number_between.false-raw)
+    (c.all_between.ensures ∙ ap (λ (l : List ℤ). all_true (map quantity_right l)) (up_to 1 17 c.args.holding.now c.requires))

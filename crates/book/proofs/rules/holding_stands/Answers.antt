@@ -9,12 +9,10 @@ use Rattle.book.proofs.rules.holding_stands.Goals as goal
 
 pub returns-then-is_listed : goal.returns-then-is_listed
 returns-then-is_listed c =
-    let t = c.before.before in
-    let a = t.args.a in
-    c.holding_right.ensures ∙ ap holding_right (lent_holding _ a) ∙ stands_listed _ _ a (passed t.is_listed.ensures t.if-is_listed.true)
+    let a = c.args.a in
+    c.holding_right.ensures ∙ ap holding_right (lent_holding _ a) ∙ stands_listed _ _ a (passed c.is_listed.ensures c.if-is_listed.true)
 
 pub returns : goal.returns
 returns c =
-    let e = c.before.before in
-    let a = e.args.a in
-    c.all_zero.ensures ∙ ap all_zero (lent_holding _ a) ∙ stands_unlisted _ _ a (failed e.is_listed.ensures e.if-is_listed.false)
+    let a = c.args.a in
+    c.all_zero.ensures ∙ ap all_zero (lent_holding _ a) ∙ stands_unlisted _ _ a (failed c.is_listed.ensures c.if-is_listed.false)

@@ -16,10 +16,9 @@ loop-a-init c = (c.requires, omega arith, every_none _)
 pub returns-then-not-all_zero : goal.returns-then-not-all_zero
 unfolding holds_listed
 returns-then-not-all_zero c =
-    let u = c.before.before.before in
-    let l = u.loop-a in
+    let l = c.loop-a in
     sym (every_out (listed_if_held _ _) 16 l.a (omega arith)
-    (neither _ _ (taken u.is_listed.ensures u.if-not-is_listed.true-raw) (ap all_zero (sym (lent_holding _ l.a)) ∙ taken c.all_zero.ensures c.if-not-all_zero.true-raw)))
+    (neither _ _ (taken c.is_listed.ensures c.if-not-is_listed.true-raw) (ap all_zero (sym (lent_holding _ l.a)) ∙ taken c.all_zero.ensures c.if-not-all_zero.true-raw)))
 
 pub loop-a-preserved : goal.loop-a-preserved
 loop-a-preserved c =

@@ -10,7 +10,7 @@ use Rattle.figures.proofs.joint.holding_of.Goals as goal
 use Rattle.figures.proofs.joint.holding_of.Goals.{After-member_block-block}
 
 block_long : (c : After-member_block-block) → length c.member_block-block.result.now ≡ 288
-block_long c = let s = c in ap length c.member_block-block.ensures ∙ (s.requires.0.block s.args.k s.requires.1).long
+block_long c = ap length c.member_block-block.ensures ∙ (c.requires.0.block c.args.k c.requires.1).long
 
 pub slice_bounds-result-end : goal.slice_bounds-result-end
 slice_bounds-result-end c = omega (arith, block_long c)

@@ -51,14 +51,12 @@ with_record-x-requires c =
 pub loop-k-preserved : goal.loop-k-preserved
 loop-k-preserved c =
     let l = c.loop-k in
-    let s = c in
-    let xs = of s.args.book.now s.args.members.kind s.args.row.now s.args.a in
-    let made = c.asset_of-y.ensures.0 ∙ ap (asset_of s.args.members.kind s.args.row.now) c.holding_of-in-loop-k.ensures in
-    (omega arith, record_turn (member_at s.args.members) _ xs l.k l.x _ l.invariant.1 (c.with_record-x.ensures ∙ ap (with_record l.x) made))
+    let xs = of c.args.book.now c.args.members.kind c.args.row.now c.args.a in
+    let made = c.asset_of-y.ensures.0 ∙ ap (asset_of c.args.members.kind c.args.row.now) c.holding_of-in-loop-k.ensures in
+    (omega arith, record_turn (member_at c.args.members) _ xs l.k l.x _ l.invariant.1 (c.with_record-x.ensures ∙ ap (with_record l.x) made))
 
 pub returns : goal.returns
 returns c =
     let l = c.loop-k in
-    let s = c in
-    let e : l.k ≡ s.args.members.count = omega arith in
-    l.invariant.1 ∙ ap (over s.args.book.now s.args.members s.args.row.now s.args.a) e
+    let e : l.k ≡ c.args.members.count = omega arith in
+    l.invariant.1 ∙ ap (over c.args.book.now c.args.members c.args.row.now c.args.a) e

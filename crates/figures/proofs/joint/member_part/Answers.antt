@@ -21,16 +21,15 @@ use Rattle.figures.proofs.joint.member_part.Goals.{After-joint_asset-x, After-ro
 -- the row that the lookup hands back
 looked_up : (c : After-row_in_force-row) → let a = c.args in c.row_in_force-row.result.now ≡ in_force a.clearing.now a.own.now a.a
 looked_up c =
-    let s = c in
-    let t = s.requires.1 in
-    let found : c.row_in_force-row.result.now ≡ lookup s.args.clearing.now s.args.own.now s.args.a = search (rules, c.row_in_force-row.ensures) in
-    found ∙ in_force_lem _ _ s.args.a t.clearing_long t.own_long s.requires.2
+    let t = c.requires.1 in
+    let found : c.row_in_force-row.result.now ≡ lookup c.args.clearing.now c.args.own.now c.args.a = search (rules, c.row_in_force-row.ensures) in
+    found ∙ in_force_lem _ _ c.args.a t.clearing_long t.own_long c.requires.2
 
 row_ranges : (c : After-row_in_force-row) → RowRanges c.row_in_force-row.result.now
-row_ranges c = let s = c in subst RowRanges (sym (looked_up c)) (s.requires.1.row s.args.a s.requires.2)
+row_ranges c = subst RowRanges (sym (looked_up c)) (c.requires.1.row c.args.a c.requires.2)
 
 pub joint_asset-x-requires : goal.joint_asset-x-requires
-joint_asset-x-requires c = let s = c in (s.requires.0, row_ranges c, s.requires.2)
+joint_asset-x-requires c = (c.requires.0, row_ranges c, c.requires.2)
 
 -- the record over the members, under a row
 abbrev over : Start → List ℤ → Asset
@@ -42,9 +41,8 @@ joined c = c.joint_asset-x.ensures ∙ ap (over c.before.before) (looked_up c.be
 
 pub part_of-requires : goal.part_of-requires
 part_of-requires c =
-    let s = c in
-    let ranges = member_asset_range _ _ _ s.requires.0 s.requires.1 s.args.a s.requires.2 in
-    (row_ranges c.before, ranges_wider _ 4 _ (subst (AssetRanges _) (sym (joined c)) ranges) s.requires.0.few)
+    let ranges = member_asset_range _ _ _ c.requires.0 c.requires.1 c.args.a c.requires.2 in
+    (row_ranges c.before, ranges_wider _ 4 _ (subst (AssetRanges _) (sym (joined c)) ranges) c.requires.0.few)
 
 pub returns : goal.returns
 unfolding joint_part

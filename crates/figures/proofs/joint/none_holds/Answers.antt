@@ -27,15 +27,13 @@ is_nothing-requires-in-loop-k c = let l = c.before.before in lent_long l.before.
 -- the first member, which is looked at before the others
 pub returns-then-not-is_nothing : goal.returns-then-not-is_nothing
 returns-then-not-is_nothing c =
-    let s = c in
     let held = ap all_zero (sym c.holding_of.ensures) ∙ taken c.is_nothing.ensures c.if-not-is_nothing.true-raw in
-    sym (every_out _ _ 0 s.requires.0.some held)
+    sym (every_out _ _ 0 c.requires.0.some held)
 
 pub loop-k-init : goal.loop-k-init
 loop-k-init c =
-    let s = c in
     let empty = ap all_zero (sym c.holding_of.ensures) ∙ left c.is_nothing.ensures c.if-not-is_nothing.false-raw in
-    (s.requires.0.some, every_next _ 0 (every_none _) empty)
+    (c.requires.0.some, every_next _ 0 (every_none _) empty)
 
 pub loop-k-preserved : goal.loop-k-preserved
 loop-k-preserved c =

@@ -27,9 +27,8 @@ percent_upto c = c.requires.0.each c.args.g c.requires.3
 
 lesser_upto : (c : After-lesser-lesser) → c.lesser-lesser.result upto 10240000000000000
 lesser_upto c =
-    let s = c in
-    let long = s.requires.1.each (1 + s.args.g) (omega arith) in
-    let short = s.requires.2.each (1 + s.args.g) (omega arith) in
+    let long = c.requires.1.each (1 + c.args.g) (omega arith) in
+    let short = c.requires.2.each (1 + c.args.g) (omega arith) in
     omega ints
 
 -- what is divided

@@ -18,11 +18,10 @@ returns-then-number_is c = sym (first_out _ _ (ap not (passed c.number_is.ensure
 pub returns : goal.returns
 unfolding cover_test
 returns c =
-    let w = c.before.before in
-    let row = w.args.row.now in
-    and_then _ _ (ap not (failed w.number_is.ensures w.if-number_is.false))
-    (test_back row w.requires w.highest_rate-rate.ensures.1 w.outer_width-width.ensures.1
-    ∙ ap₂ (λ (rate v : ℤ). le_z (rate *ℤ price row) (the_whole *ℤ (level row 0 -ℤ v))) w.highest_rate-rate.ensures.0 w.outer_width-width.ensures.0)
+    let row = c.args.row.now in
+    and_then _ _ (ap not (failed c.number_is.ensures c.if-number_is.false))
+    (test_back row c.requires c.highest_rate-rate.ensures.1 c.outer_width-width.ensures.1
+    ∙ ap₂ (λ (rate v : ℤ). le_z (rate *ℤ price row) (the_whole *ℤ (level row 0 -ℤ v))) c.highest_rate-rate.ensures.0 c.outer_width-width.ensures.0)
 
 pub overflow_mul-result : goal.overflow_mul-result
 overflow_mul-result c = search fits

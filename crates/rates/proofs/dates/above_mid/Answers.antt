@@ -7,9 +7,8 @@ use Rattle.rates.proofs.dates.above_mid.Goals as goal
 
 pub returns : goal.returns
 returns c =
-    let s = c.before.before.before in
     c.lies_between.ensures
-    ∙ above_back s.requires.3 (sfits_of s.lies_between-arg-1.given) (sfits_of c.lies_between-arg-2-1.given)
+    ∙ above_back c.requires.3 (sfits_of c.lies_between-arg-1.given) (sfits_of c.lies_between-arg-2-1.given)
 
 pub overflow_add-row : goal.overflow_add-row
 overflow_add-row c = highest_fits c.requires.3

@@ -10,15 +10,13 @@ use Rattle.rates.proofs.dates.broken_dates.Goals as goal
 
 pub returns-then-not-date_right : goal.returns-then-not-date_right
 returns-then-not-date_right c =
-    let l = c.before.before.before.before in
-    let broken = some_false (date_marks l.args.row.now l.loop-d.d) (taken c.date_right.ensures c.if-not-date_right.true-raw) in
-    found_in l.loop-d.invariant c.loop-d-test.true (date_count _ l.loop-d.d) c.broken_date.ensures (omega (arith, date_count l.args.row.now l.loop-d.d)) refl
+    let broken = some_false (date_marks c.args.row.now c.loop-d.d) (taken c.date_right.ensures c.if-not-date_right.true-raw) in
+    found_in c.loop-d.invariant c.loop-d-test.true (date_count _ c.loop-d.d) c.broken_date.ensures (omega (arith, date_count c.args.row.now c.loop-d.d)) refl
 
 pub loop-d-preserved : goal.loop-d-preserved
 loop-d-preserved c =
-    let l = c.before.before.before in
-    let right = none_false (date_marks l.args.row.now l.loop-d.d) (left c.date_right.ensures c.if-not-date_right.false-raw) in
-    piece_passed l.loop-d.invariant c.loop-d-test.true (date_count _ l.loop-d.d) refl (omega (arith, date_count l.args.row.now l.loop-d.d))
+    let right = none_false (date_marks c.args.row.now c.loop-d.d) (left c.date_right.ensures c.if-not-date_right.false-raw) in
+    piece_passed c.loop-d.invariant c.loop-d-test.true (date_count _ c.loop-d.d) refl (omega (arith, date_count c.args.row.now c.loop-d.d))
 
 pub loop-d-init : goal.loop-d-init
 loop-d-init c = none_passed

@@ -23,8 +23,7 @@ returns-then-not-level_right c = sym (first_out _ _ (taken c.level_right.ensures
 pub returns : goal.returns
 unfolding date_marks all_true
 returns c =
-    let l = c.before.before.before.before in
-    and_then _ _ (left l.level_right.ensures l.if-not-level_right.false-raw) (simp (and_assoc, and-true) (search and_same depth 20 ∙ in_order _ _ _ _ _ _ _))
+    and_then _ _ (left c.level_right.ensures c.if-not-level_right.false-raw) (simp (and_assoc, and-true) (search and_same depth 20 ∙ in_order _ _ _ _ _ _ _))
 
 pub below_mid-requires : goal.below_mid-requires
 below_mid-requires c = (search rules, search rules, search rules, near c)

@@ -14,8 +14,7 @@ use Rattle.rates.proofs.in_force.row_in_force.Goals.{After-is_absent}
 
 -- what was asked of the own row
 asked : (c : After-is_absent)
-    → let s = c.before.before.before.before.before in
-    c.is_absent.result ≡ absent (row_of s.args.own.now s.args.asset)
+    → c.is_absent.result ≡ absent (row_of c.args.own.now c.args.asset)
 asked c = c.is_absent.ensures ∙ ap absent (cut (64 * c.args.asset) 64 _)
 
 pub returns-then-clearing-ne-TABLE_LENGTH : goal.returns-then-clearing-ne-TABLE_LENGTH

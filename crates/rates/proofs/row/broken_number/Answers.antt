@@ -13,9 +13,8 @@ use Rattle.rates.proofs.row.broken_number.Goals as goal
 pub returns-then-number_is : goal.returns-then-number_is
 unfolding row_marks
 returns-then-number_is c =
-    let s = c.before.before in
-    rw (passed s.number_is.ensures s.if-number_is.true)
-    (c.first_nonzero.ensures.0 ∙ ap (λ (l : List ℤ). first_false (map is_zero l)) (up_to 0 64 s.args.row.now s.requires))
+    rw (passed c.number_is.ensures c.if-number_is.true)
+    (c.first_nonzero.ensures.0 ∙ ap (λ (l : List ℤ). first_false (map is_zero l)) (up_to 0 64 c.args.row.now c.requires))
 
 pub returns : goal.returns
 unfolding row_marks

@@ -11,7 +11,6 @@ returns-then-not-number_is c = where_not _ _ (taken c.number_is.ensures c.if-not
 
 pub returns : goal.returns
 returns c =
-    let e = c.before.before in
     c.number_is-2.ensures
     ∙ equal_back _ (sfits_of c.number_is-arg-1.given)
-    ∙ where_so _ _ (left e.number_is.ensures e.if-not-number_is.false-raw)
+    ∙ where_so _ _ (left c.number_is.ensures c.if-not-number_is.false-raw)

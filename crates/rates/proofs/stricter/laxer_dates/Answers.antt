@@ -6,13 +6,11 @@ use Rattle.rates.proofs.stricter.laxer_dates.Goals as goal
 
 pub returns-then-laxer-lt-DATE_LENGTH : goal.returns-then-laxer-lt-DATE_LENGTH
 returns-then-laxer-lt-DATE_LENGTH c =
-    let l = c.before.before.before in
-    found_in l.loop-d.invariant c.loop-d-test.true (stricter_date_count _ _ l.loop-d.d) c.laxer_date-laxer.ensures c.if-laxer-lt-DATE_LENGTH.true refl
+    found_in c.loop-d.invariant c.loop-d-test.true (stricter_date_count _ _ c.loop-d.d) c.laxer_date-laxer.ensures c.if-laxer-lt-DATE_LENGTH.true refl
 
 pub loop-d-preserved : goal.loop-d-preserved
 loop-d-preserved c =
-    let l = c.before.before.before in
-    piece_passed l.loop-d.invariant c.loop-d-test.true (stricter_date_count _ _ l.loop-d.d) c.laxer_date-laxer.ensures c.if-laxer-lt-DATE_LENGTH.false
+    piece_passed c.loop-d.invariant c.loop-d-test.true (stricter_date_count _ _ c.loop-d.d) c.laxer_date-laxer.ensures c.if-laxer-lt-DATE_LENGTH.false
 
 pub loop-d-init : goal.loop-d-init
 loop-d-init c = none_passed

@@ -13,8 +13,7 @@ use Rattle.rates.proofs.tables.broken_own.Goals as goal
 use Rattle.rates.proofs.tables.broken_own.Goals.{After-broken_own_row-broken}
 
 found : (c : After-broken_own_row-broken)
-    → let l = c.before.before.before.before in
-    c.broken_own_row-broken.result ≡ first_false (own_marks l.args.clearing.now l.args.own.now l.loop-a.a)
+    → c.broken_own_row-broken.result ≡ first_false (own_marks c.args.clearing.now c.args.own.now c.loop-a.a)
 unfolding own_marks
 found c =
     let a = c.loop-a.a in
@@ -22,23 +21,20 @@ found c =
 
 pub broken_own_row-broken-requires : goal.broken_own_row-broken-requires
 broken_own_row-broken-requires c =
-    let l = c.before.before.before in
-    let a = l.loop-a.a in (
-      ap length (cut (64 * a) 64 _) ∙ row_long _ l.requires.1 a c.loop-a-test.true,
-      ap length (cut (64 * a) 64 _) ∙ row_long _ l.requires.0 a c.loop-a-test.true,
+    let a = c.loop-a.a in (
+      ap length (cut (64 * a) 64 _) ∙ row_long _ c.requires.1 a c.loop-a-test.true,
+      ap length (cut (64 * a) 64 _) ∙ row_long _ c.requires.0 a c.loop-a-test.true,
     )
 
 pub returns-then-broken-lt-LENGTH : goal.returns-then-broken-lt-LENGTH
 returns-then-broken-lt-LENGTH c =
-    let l = c.before.before.before.before.before in
     let h = c.loop-a-test.true in
-    found_in l.loop-a.invariant h (own_marks_count _ _ l.requires.1 l.loop-a.a h) (found c.before) c.if-broken-lt-LENGTH.true refl
+    found_in c.loop-a.invariant h (own_marks_count _ _ c.requires.1 c.loop-a.a h) (found c.before) c.if-broken-lt-LENGTH.true refl
 
 pub loop-a-preserved : goal.loop-a-preserved
 loop-a-preserved c =
-    let l = c.before.before.before.before.before in
     let h = c.loop-a-test.true in
-    piece_passed l.loop-a.invariant h (own_marks_count _ _ l.requires.1 l.loop-a.a h) (found c.before) c.if-broken-lt-LENGTH.false
+    piece_passed c.loop-a.invariant h (own_marks_count _ _ c.requires.1 c.loop-a.a h) (found c.before) c.if-broken-lt-LENGTH.false
 
 pub loop-a-init : goal.loop-a-init
 loop-a-init c = none_passed

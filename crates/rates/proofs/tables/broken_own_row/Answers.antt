@@ -13,12 +13,10 @@ returns-then-is_absent c = rw (passed c.is_absent.ensures c.if-is_absent.true) r
 pub returns-then-not-own_kind_right : goal.returns-then-not-own_kind_right
 unfolding own_row_marks first_false
 returns-then-not-own_kind_right c =
-    let e = c.before.before in
-    rw (failed e.is_absent.ensures e.if-is_absent.false, taken c.own_kind_right.ensures c.if-not-own_kind_right.true-raw) refl
+    rw (failed c.is_absent.ensures c.if-is_absent.false, taken c.own_kind_right.ensures c.if-not-own_kind_right.true-raw) refl
 
 pub returns : goal.returns
 unfolding own_row_marks
 returns c =
-    let e = c.before.before.before in
-    rw (failed e.is_absent.ensures e.if-is_absent.false, left c.own_kind_right.ensures c.if-not-own_kind_right.false-raw)
+    rw (failed c.is_absent.ensures c.if-is_absent.false, left c.own_kind_right.ensures c.if-not-own_kind_right.false-raw)
     c.broken_number.ensures

@@ -15,8 +15,7 @@ use Rattle.rates.proofs.tables.laxer_own.Goals as goal
 use Rattle.rates.proofs.tables.laxer_own.Goals.{After-laxer_own_row-laxer}
 
 found : (c : After-laxer_own_row-laxer)
-    → let l = c.before.before.before.before in
-    c.laxer_own_row-laxer.result ≡ first_false (stricter_at l.args.clearing.now l.args.own.now l.loop-a.a)
+    → c.laxer_own_row-laxer.result ≡ first_false (stricter_at c.args.clearing.now c.args.own.now c.loop-a.a)
 unfolding stricter_at
 found c =
     let a = c.loop-a.a in
@@ -25,25 +24,22 @@ found c =
 pub laxer_own_row-laxer-requires : goal.laxer_own_row-laxer-requires
 unfolding own_marks
 laxer_own_row-laxer-requires c =
-    let l = c.before.before.before in
-    let a = l.loop-a.a in (
-      ap length (cut (64 * a) 64 _) ∙ row_long _ l.requires.1 a c.loop-a-test.true,
-      ap length (cut (64 * a) 64 _) ∙ row_long _ l.requires.0 a c.loop-a-test.true,
+    let a = c.loop-a.a in (
+      ap length (cut (64 * a) 64 _) ∙ row_long _ c.requires.1 a c.loop-a-test.true,
+      ap length (cut (64 * a) 64 _) ∙ row_long _ c.requires.0 a c.loop-a-test.true,
       ap₂ (λ (own clearing : List ℤ). all_true (own_row_marks own clearing)) (cut (64 * a) 64 _) (cut (64 * a) 64 _)
-          ∙ all_piece (own_marks l.args.clearing.now l.args.own.now) 0 assets a (omega arith) (omega arith) l.requires.2,
+          ∙ all_piece (own_marks c.args.clearing.now c.args.own.now) 0 assets a (omega arith) (omega arith) c.requires.2,
     )
 
 pub returns-then-laxer-lt-LENGTH : goal.returns-then-laxer-lt-LENGTH
 returns-then-laxer-lt-LENGTH c =
-    let l = c.before.before.before.before.before in
     let h = c.loop-a-test.true in
-    found_in l.loop-a.invariant h (stricter_at_count _ _ l.loop-a.a) (found c.before) c.if-laxer-lt-LENGTH.true refl
+    found_in c.loop-a.invariant h (stricter_at_count _ _ c.loop-a.a) (found c.before) c.if-laxer-lt-LENGTH.true refl
 
 pub loop-a-preserved : goal.loop-a-preserved
 loop-a-preserved c =
-    let l = c.before.before.before.before.before in
     let h = c.loop-a-test.true in
-    piece_passed l.loop-a.invariant h (stricter_at_count _ _ l.loop-a.a) (found c.before) c.if-laxer-lt-LENGTH.false
+    piece_passed c.loop-a.invariant h (stricter_at_count _ _ c.loop-a.a) (found c.before) c.if-laxer-lt-LENGTH.false
 
 pub loop-a-init : goal.loop-a-init
 loop-a-init c = none_passed

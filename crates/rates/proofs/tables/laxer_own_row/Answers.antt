@@ -13,5 +13,4 @@ returns-then-number_is c = rw (absent_by_kind _ _ c.requires.2 ∙ passed c.numb
 pub returns : goal.returns
 unfolding stricter_own_row
 returns c =
-    let e = c.before in
-    rw (absent_by_kind _ _ e.requires.2 ∙ failed e.number_is.ensures e.if-number_is.false) c.laxer_number.ensures
+    rw (absent_by_kind _ _ c.requires.2 ∙ failed c.number_is.ensures c.if-number_is.false) c.laxer_number.ensures
