@@ -9,10 +9,11 @@ use Rattle.book.specs.AtAccount.{at_account}
 pub record State : Type 0 where
   pub book : List ℤ
 
+-- as a contract names it: of a book that is lent to read, and of one that may be changed, as a `requires` finds it
 abbrev pub state : List ℤ → State
 state book = record { book = book }
 
--- as an `ensures` names it where a call may change the book: what the call found, and what it left
+-- and as an `ensures` does where the call may change the book: what the call found, and what it left
 abbrev pub Changed : Type 0
 Changed = Both (MutBor (List ℤ)) (MutBor (List ℤ))
 
