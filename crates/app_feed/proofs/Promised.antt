@@ -32,7 +32,7 @@ use Rattle.app_feed.specs.Gauge.{used, gauge_of, Balanced}
 use Rattle.app_feed.specs.Feed.{feed_refusals, fed_of, sent_of}
 use Rattle.app_feed.specs.Received.{is_pattern, read_refusals, received_of}
 use Rattle.app_feed.specs.Promised.{sent_code, AreExactly, Gauges, Feeds, Refuses, Promised, SameBits}
-use Rattle.app_feed.specs.declared.feeding.Fed.{Fed}
+use Rattle.app_feed.specs.Feed.{Fed}
 use Rattle.app_feed.specs.declared.gauge.Gauge.TheVariants.{Empty, Over, Used}
 use Rattle.app_feed.proofs.Five.{as_five}
 use Rattle.app_feed.proofs.Patterns.{each_pattern}

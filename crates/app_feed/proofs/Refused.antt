@@ -1,5 +1,5 @@
--- What a feed sends where its report is refused, from what the report was asked with. Assumes nothing.
-use mathlib.Core.Path.{◌≡◌, ap, ◌∙◌}
+-- What a feed sends where it is refused; and what it hears of its report. Assumes nothing.
+use mathlib.Core.Path.{◌≡◌, refl, ap, ◌∙◌}
 use mathlib.Core.List.{List}
 use Prim.Native.Nat.{ℕ}
 use lib.IntN.{ℤ}
@@ -7,16 +7,22 @@ use lib.ListN.{length}
 use mir.Facts.{to_z-of_z}
 use mir.Syntax.{w64}
 use mir.Val.{SFits}
+use Rattle.std.specs.Prelude.{Result, Err}
+use Rattle.std.specs.Result.{IsErrAnd}
+use Rattle.std.proofs.lemmas.Result.{err_from_is_err_and}
+use Rattle.whole.specs.Codes.{refusal_code}
 use Rattle.whole.specs.Refusals.{first_code}
+use Rattle.whole.specs.declared.codes.Refusal.{Refusal}
 use Rattle.whole.proofs.Machine.{back}
 use Rattle.rates.specs.Lent.{Tables}
 use Rattle.engine.specs.State.{State}
 use Rattle.engine.specs.Refused.{place_of, report_refusals}
-use Rattle.engine.specs.Report.{report_of, no_figures}
-use Rattle.engine.specs.declared.reporting.Reported.{Reported}
-use Rattle.app_feed.specs.Feed.{fed_of, Sent, sent_of}
-use Rattle.app_feed.specs.declared.feeding.Fed.{Fed}
-use Rattle.app_feed.proofs.Sending.{report_wrong, sends_nothing}
+use Rattle.engine.specs.Report.{Reported, report_of}
+use Rattle.engine.proofs.Exits.{refusal_not_0}
+use Rattle.app_feed.specs.Gauge.{gauge_of}
+use Rattle.app_feed.specs.Feed.{feed_refusals, fed_of, fed_as, Sent, sent_of}
+use Rattle.app_feed.specs.declared.feeding.Fed.{Fed as Feeding}
+use Rattle.app_feed.proofs.Sending.{sends_nothing}
 
 module _ (tables : Tables) (account : ℤ) (s : State) {r : Reported} where
   -- the account is read back as it was
@@ -28,9 +34,19 @@ module _ (tables : Tables) (account : ℤ) (s : State) {r : Reported} where
   unfolding report_of
   code_is e = ap (λ (r : Reported). r.code) e
 
-pub refuses : (tables : Tables) (account : ℤ) (s : State) (bits : List ℕ) (fed : Fed) (r : Reported)
-    → SFits w64 account → r ≡ report_of tables (place_of (back account)) s → length bits ≡ 5 → (r.code ≡ 0 → ⊥)
-    → fed ≡ fed_of (record { code = r.code; figures = no_figures })
-    → ◌≡◌ {A = Sent} (record { fed = fed; bits = bits }) (sent_of tables (place_of account) s bits)
-refuses tables account s bits fed r f e long h sends =
-    sends_nothing tables (place_of account) s bits (report_wrong tables (place_of account) s bits long (code_is tables account s (told tables account s f e)) h) h sends
+-- ---- refused, as code answers it
+module _ (tables : Tables) (i : ℕ) (s : State) (bits : List ℕ) where
+  -- zeros have the empty gauge
+  pub zeros : (refusal : Refusal) → refusal_code refusal ≡ first_code (feed_refusals tables i s (length bits))
+      → ◌≡◌ {A = Sent} (record { fed = fed_as (Err refusal); bits = bits }) (sent_of tables i s bits)
+  unfolding fed_of gauge_of
+  zeros refusal e = sends_nothing tables i s bits e (refusal_not_0 refusal) refl
+
+  pub exit_zeros : (r : Result Feeding Refusal) (refusal : Refusal) → IsErrAnd r (λ e. e ≡ refusal)
+      → refusal_code refusal ≡ first_code (feed_refusals tables i s (length bits))
+      → ◌≡◌ {A = Sent} (record { fed = fed_as r; bits = bits }) (sent_of tables i s bits)
+  exit_zeros r refusal h e =
+      let p = err_from_is_err_and r h in
+      ap (λ (r : Result Feeding Refusal). record { fed = fed_as r; bits = bits }) p.1
+      ∙ ap (λ (refusal : Refusal). record { fed = fed_as (Err refusal); bits = bits }) p.2
+      ∙ zeros refusal e

@@ -17,7 +17,7 @@ use Rattle.engine.proofs.Reports.{no_figures_lem, with_figures}
 use Rattle.app_feed.specs.Floats.{bits_of, all_below}
 use Rattle.app_feed.specs.Feed.{feed_refusals, fed_of, Sent, sent_of}
 use Rattle.app_feed.specs.Promised.{sent_code}
-use Rattle.app_feed.specs.declared.feeding.Fed.{Fed}
+use Rattle.app_feed.specs.Feed.{Fed}
 
 tested : (b : Bool) → cond b 0 out_of_bounds ≡ first_code (not b gives out_of_bounds ∷ [])
 unfolding first_code

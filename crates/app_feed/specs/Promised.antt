@@ -14,8 +14,7 @@ use Rattle.settlement.specs.Laws.{Unshared}
 use Rattle.figures.specs.Ranges.{Below2^53}
 use Rattle.figures.specs.declared.limit.Figures.{Figures}
 use Rattle.engine.specs.State.{State}
-use Rattle.engine.specs.Report.{report_of, no_figures}
-use Rattle.engine.specs.declared.reporting.Reported.{Reported}
+use Rattle.engine.specs.Report.{Reported, report_of, no_figures}
 use Rattle.app_feed.specs.Floats.{float, bits_of, all_below}
 use Rattle.app_feed.specs.Gauge.{used}
 use Rattle.app_feed.specs.Feed.{sent_of}

@@ -1,12 +1,11 @@
-ghost use Rattle.std.specs.Prelude.{◌≡◌, ◌<◌, ◌^◌, nat_abs, length};
+ghost use Rattle.std.specs.Prelude.{◌≡◌, ◌<◌, ◌^◌, nat_abs};
 ghost use Rattle.figures.specs.Ranges.{Below2^53};
-ghost use Rattle.engine.specs.Report.{no_figures};
 ghost use Rattle.app_feed.specs.Floats.{float, floats_of, bits_of, is_below, all_below, AllHaveBits};
 
 // The five figures as floats, and their bits.
 
 // A report's figures in kopecks, each exactly the whole number.
-#[derive(Clone, Copy)]
+#[derive(Clone, Copy, Debug, PartialEq)]
 pub struct Floats {
     pub valuation: f64,
     pub market: f64,
@@ -61,28 +60,16 @@ pub(crate) fn floats_of(f: figures::Figures) -> Floats
     }
 }
 
-// The five of a refusal: +0.0 each.
-pub(crate) fn no_floats() -> Floats
-    ensures { result ≡ floats_of no_figures }
-{
-    let zero = exact(0);
-    Floats {
-        valuation: zero,
-        market: zero,
-        interest: zero,
-        discount: zero,
-        limit: zero,
-    }
-}
-
 // Their bits, in report order.
-pub(crate) fn put_bits(x: Floats, bits: &mut [u64])
-    requires { AllHaveBits x × (length bits.old ≡ 5) }
-    ensures { bits.new ≡ bits_of x }
+pub(crate) fn bits_of(x: Floats) -> [u64; COUNT]
+    requires { AllHaveBits x }
+    ensures { result ≡ bits_of x }
 {
-    bits[0] = f64::to_bits(x.valuation);
-    bits[1] = f64::to_bits(x.market);
-    bits[2] = f64::to_bits(x.interest);
-    bits[3] = f64::to_bits(x.discount);
-    bits[4] = f64::to_bits(x.limit);
+    [
+        f64::to_bits(x.valuation),
+        f64::to_bits(x.market),
+        f64::to_bits(x.interest),
+        f64::to_bits(x.discount),
+        f64::to_bits(x.limit),
+    ]
 }

@@ -7,7 +7,7 @@ use crate::floats;
 // The gauge of the app's first screen.
 
 // Nothing to show; over, by a shortfall in kopecks; or used, a share of the valuation from 0 to 1.
-#[derive(Clone, Copy)]
+#[derive(Clone, Copy, Debug, PartialEq)]
 pub enum Gauge {
     Empty,
     Over(f64),
@@ -40,23 +40,27 @@ pub(crate) fn gauge_of(f: figures::Figures) -> Gauge
 }
 
 // Which of the three.
-pub fn number(gauge: Gauge) -> u8
-    ensures { result ≡ gauge_number gauge }
-{
-    match gauge {
-        Gauge::Empty => EMPTY,
-        Gauge::Over(_) => OVER,
-        Gauge::Used(_) => USED,
+impl From<Gauge> for u8 {
+    ghost from_gives = { λ gauge number. number ≡ gauge_number gauge };
+
+    fn from(gauge: Gauge) -> u8 {
+        match gauge {
+            Gauge::Empty => EMPTY,
+            Gauge::Over(_) => OVER,
+            Gauge::Used(_) => USED,
+        }
     }
 }
 
-// What it carries; zero where it is empty.
-pub fn shown(gauge: Gauge) -> f64
-    ensures { result ≡ gauge_shown gauge }
-{
-    match gauge {
-        Gauge::Empty => floats::exact(0),
-        Gauge::Over(shortfall) => shortfall,
-        Gauge::Used(share) => share,
+impl Gauge {
+    // What it carries; zero where it is empty.
+    pub fn shown(self) -> f64
+        ensures { result ≡ gauge_shown self }
+    {
+        match self {
+            Gauge::Empty => floats::exact(0),
+            Gauge::Over(shortfall) => shortfall,
+            Gauge::Used(share) => share,
+        }
     }
 }

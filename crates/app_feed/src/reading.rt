@@ -1,21 +1,13 @@
 ghost use Rattle.std.specs.Prelude.{◌≡◌, map, true, length};
 ghost use Rattle.whole.specs.Marks.{all_true};
-ghost use Rattle.engine.specs.Report.{no_figures};
-ghost use Rattle.app_feed.specs.Floats.{floats_of, floats_at};
-ghost use Rattle.app_feed.specs.Received.{is_pattern, received_of};
+ghost use Rattle.app_feed.specs.Floats.{floats_at};
+ghost use Rattle.app_feed.specs.Received.{is_pattern, received_as, received_of};
 
 use crate::floats;
 use crate::floats::Floats;
-use whole::codes;
+use whole::Refusal;
 
 // Five numbers read back as a record of floats.
-
-// What is read: the code and the five floats, zeros when refused.
-#[derive(Clone, Copy)]
-pub struct Received {
-    pub code: u8,
-    pub figures: Floats,
-}
 
 // The place of the sign, and the pattern of an infinity: without its sign a NaN's pattern is above that.
 const SIGN: u64 = 0x8000_0000_0000_0000;
@@ -33,14 +25,7 @@ fn is_pattern(bits: u64) -> bool
 fn all_patterns(bits: &[u64]) -> bool
     ensures { result ≡ all_true (map is_pattern bits.now) }
 {
-    let mut k = 0;
-    while k < bits.len() {
-        if !is_pattern(bits[k]) {
-            return false;
-        }
-        k += 1;
-    }
-    true
+    bits.iter().all(|bits| is_pattern(*bits))
 }
 
 // The floats of five patterns.
@@ -57,28 +42,16 @@ fn floats_at(bits: &[u64]) -> Floats
     }
 }
 
-// A refusal: its code and zeros.
-fn refused(code: u8) -> Received
-    ensures { result ≡ record { code = code; figures = floats_of no_figures } }
-{
-    Received {
-        code,
-        figures: floats::no_floats(),
-    }
-}
-
 // Read five numbers back into a record.
-pub fn receive(bits: &[u64]) -> Received
-    ensures { result ≡ received_of bits.now }
+pub fn receive(bits: &[u64]) -> Result<Floats, Refusal>
+    ensures { received_as result ≡ received_of bits.now }
 {
     if bits.len() != floats::COUNT {
-        return refused(codes::WRONG_LENGTH);
+        return Err(Refusal::WrongLength);
     }
     if !all_patterns(bits) {
-        return refused(codes::OUT_OF_BOUNDS);
+        return Err(Refusal::OutOfBounds);
     }
-    Received {
-        code: codes::DONE,
-        figures: floats_at(bits),
-    }
+    let found = floats_at(bits);
+    Ok(found)
 }

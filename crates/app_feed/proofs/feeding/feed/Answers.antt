@@ -1,5 +1,5 @@
 -- `feeding::feed` meets its contract: the count, the report's code, the size of its figures, and then its figures. Assumes nothing.
-use mathlib.Core.Path.{◌≡◌, sym, ap, ◌∙◌, subst}
+use mathlib.Core.Path.{◌≡◌, refl, sym, ap, ◌∙◌, subst}
 use mathlib.Core.Bool.{Bool, true, not}
 use mathlib.Core.List.{List, [], ◌∷◌}
 use Prim.Native.Nat.{ℕ}
@@ -10,20 +10,21 @@ use borrow.Author.Rules.{rules}
 use Rattle.whole.specs.Refusals.{◌gives◌, first_code, out_of_bounds}
 use Rattle.whole.proofs.Refusals.{Code, none, hit, miss}
 use Rattle.whole.proofs.Tests.{passed, failed, denied, refuted}
-use Rattle.rates.specs.Lent.{Tables, lent}
+use Rattle.whole.specs.declared.codes.Refusal.TheVariants.{WrongLength, OutOfBounds}
+use Rattle.rates.specs.Lent.{Tables, numbers_of}
 use Rattle.figures.specs.Ranges.{Below2^53}
 use Rattle.engine.specs.State.{State, state}
 use Rattle.engine.specs.Refused.{place_of, figures_at}
-use Rattle.engine.specs.Report.{report_of}
-use Rattle.engine.specs.declared.reporting.Reported.{Reported}
+use Rattle.engine.specs.Report.{Reported, report_of}
+use Rattle.engine.proofs.Exits.{refusal_not_0}
 use Rattle.engine.proofs.Reports.{figures_reported}
 use Rattle.app_feed.specs.Floats.{floats_of, all_below, AllHaveBits}
 use Rattle.app_feed.specs.Gauge.{gauge_of, Balanced}
 use Rattle.app_feed.specs.Feed.{feed_refusals, fed_of}
 use Rattle.app_feed.proofs.Exact.{all_have_bits}
 use Rattle.app_feed.proofs.Reported.{below_tested, report_balanced}
-use Rattle.app_feed.proofs.Refused.{told, code_is}
-use Rattle.app_feed.proofs.Sending.{count_wrong, report_right, sends_nothing, sends}
+use Rattle.app_feed.proofs.Refused.{told, code_is, zeros, exit_zeros}
+use Rattle.app_feed.proofs.Sending.{count_wrong, report_wrong, report_right, sends}
 use Rattle.app_feed.proofs.feeding.feed.Goals as goal
 
 -- ---- the report of an account of what is lent
@@ -52,59 +53,57 @@ module _ (lends : Tables) (account : ℤ) (kept : State) where
     after_size numbers long p = report_right lends (place_of account) kept numbers long (sym (code_is lends account kept e) ∙ done) p
 
 pub returns-then-bits-ne-COUNT : goal.returns-then-bits-ne-COUNT
-returns-then-bits-ne-COUNT c =
-    let tables = lent c.args.clearing c.args.own c.args.groups in
-    let i = place_of c.args.account in
-    let s = state c.args.book.now in
-    let bits = c.args.bits.now in
-    sends_nothing tables i s bits (count_wrong tables i s bits c.if-bits-ne-COUNT.true) (λ z. absurd (omega arith)) c.refused.ensures
+returns-then-bits-ne-COUNT c = let a = c.args in
+    zeros _ _ _ _ WrongLength (count_wrong (numbers_of a.tables) (place_of a.account) (state a.book.now) a.bits.now c.if-bits-ne-COUNT.true)
+
+pub returns-in_err-found : goal.returns-in_err-found
+returns-in_err-found c =
+    let a = c.args in
+    let tables = numbers_of a.tables in
+    let s = state a.book.now in
+    exit_zeros tables (place_of a.account) s a.bits.now _ _ c.from_residual.ensures.1
+    (report_wrong tables (place_of a.account) s a.bits.now c.if-bits-ne-COUNT.false
+    (code_is tables a.account s (told tables a.account s c.ranges.account c.in_err-found.ensures)) (refusal_not_0 _))
 
 pub returns-then-not-all_below : goal.returns-then-not-all_below
 returns-then-not-all_below c =
-    let tables = lent c.args.clearing c.args.own c.args.groups in
-    let s = state c.args.book.now in
-    let bits = c.args.bits.now in
-    let e = told tables c.args.account s c.ranges.account c.report-reported.ensures in
-    let done : c.report-reported.result.code ≡ 0 = search rules in
-    let above = refuted (failed (asked tables c.args.account s e done c.all_below.ensures) c.if-not-all_below.true) in
-    sends_nothing tables (place_of c.args.account) s bits (after_size tables c.args.account s e done bits c.if-bits-ne-COUNT.false (hit above)) (λ z. absurd (omega arith))
-    c.refused-then-not-all_below.ensures
+    let a = c.args in
+    let tables = numbers_of a.tables in
+    let s = state a.book.now in
+    let e = told tables a.account s c.ranges.account c.in_ok-found.ensures in
+    let above = refuted (failed (asked tables a.account s e refl c.all_below.ensures) c.if-not-all_below.true) in
+    zeros tables (place_of a.account) s a.bits.now OutOfBounds (after_size tables a.account s e refl a.bits.now c.if-bits-ne-COUNT.false (hit above))
 
 pub floats_of-figures-requires : goal.floats_of-figures-requires
 floats_of-figures-requires c =
-    let tables = lent c.args.clearing c.args.own c.args.groups in
+    let tables = numbers_of c.args.tables in
     let s = state c.args.book.now in
-    let e = told tables c.args.account s c.ranges.account c.report-reported.ensures in
-    let done : c.report-reported.result.code ≡ 0 = search rules in
-    below tables c.args.account s e done c.all_below.ensures c.if-not-all_below.false
+    let e = told tables c.args.account s c.ranges.account c.in_ok-found.ensures in
+    below tables c.args.account s e refl c.all_below.ensures c.if-not-all_below.false
 
-pub put_bits-requires : goal.put_bits-requires
-put_bits-requires c =
-    let tables = lent c.args.clearing c.args.own c.args.groups in
+pub gauge_of-gauge-requires : goal.gauge_of-gauge-requires
+gauge_of-gauge-requires c =
+    let tables = numbers_of c.args.tables in
     let s = state c.args.book.now in
-    let e = told tables c.args.account s c.ranges.account c.report-reported.ensures in
-    let done : c.report-reported.result.code ≡ 0 = search rules in
-    let small = below tables c.args.account s e done c.all_below.ensures c.if-not-all_below.false in
-    (subst AllHaveBits (sym c.floats_of-figures.ensures) (all_have_bits _ small), c.if-bits-ne-COUNT.false)
+    let e = told tables c.args.account s c.ranges.account c.in_ok-found.ensures in
+    (below tables c.args.account s e refl c.all_below.ensures c.if-not-all_below.false, balanced tables c.args.account s e refl)
 
-pub gauge_of-requires : goal.gauge_of-requires
-gauge_of-requires c =
-    let tables = lent c.args.clearing c.args.own c.args.groups in
+pub bits_of-requires : goal.bits_of-requires
+bits_of-requires c =
+    let tables = numbers_of c.args.tables in
     let s = state c.args.book.now in
-    let e = told tables c.args.account s c.ranges.account c.report-reported.ensures in
-    let done : c.report-reported.result.code ≡ 0 = search rules in
-    (below tables c.args.account s e done c.all_below.ensures c.if-not-all_below.false, balanced tables c.args.account s e done)
+    let e = told tables c.args.account s c.ranges.account c.in_ok-found.ensures in
+    subst AllHaveBits (sym c.floats_of-figures.ensures) (all_have_bits _ (below tables c.args.account s e refl c.all_below.ensures c.if-not-all_below.false))
 
 pub returns : goal.returns
 unfolding fed_of
 returns c =
-    let tables = lent c.args.clearing c.args.own c.args.groups in
+    let tables = numbers_of c.args.tables in
     let s = state c.args.book.now in
     let bits = c.args.bits.now in
-    let e = told tables c.args.account s c.ranges.account c.report-reported.ensures in
-    let done : c.report-reported.result.code ≡ 0 = search rules in
-    let within = denied (passed (asked tables c.args.account s e done c.all_below.ensures) c.if-not-all_below.false) in
-    let f = found tables c.args.account s e done in
-    sends tables (place_of c.args.account) s bits (sym (after_size tables c.args.account s e done bits c.if-bits-ne-COUNT.false (miss within none)))
-    (λ i. record { code = 0; figures = (c.floats_of-figures.ensures ∙ ap floats_of f) i; gauge = (c.gauge_of.ensures ∙ ap gauge_of f) i })
-    c.put_bits.ensures
+    let e = told tables c.args.account s c.ranges.account c.in_ok-found.ensures in
+    let within = denied (passed (asked tables c.args.account s e refl c.all_below.ensures) c.if-not-all_below.false) in
+    let f = found tables c.args.account s e refl in
+    sends tables (place_of c.args.account) s bits (sym (after_size tables c.args.account s e refl bits c.if-bits-ne-COUNT.false (miss within none)))
+    (λ i. record { code = 0; figures = (c.floats_of-figures.ensures ∙ ap floats_of f) i; gauge = (c.gauge_of-gauge.ensures ∙ ap gauge_of f) i })
+    (c.copy_from_slice.ensures.after ∙ c.bits_of.ensures)

@@ -1,22 +1,23 @@
--- `reading::all_patterns` meets its contract. The loop's invariant: the answer is that for the numbers from k on. Assumes nothing.
-use mathlib.Core.Path.{refl, sym, ◌∙◌}
-use native.Mathlib.Omega.{arith}
-use Rattle.whole.proofs.Tests.{left, taken}
-use Rattle.whole.proofs.Lists.{all_next, all_out, all_end}
+-- `reading::all_patterns` meets its contract: each number is asked, and the marks are all true where it passes. Assumes nothing.
+use mathlib.Core.Path.{◌≡◌, refl, ap, ◌∙◌}
+use mathlib.Core.Bool.{Bool, ◌&&◌}
+use mathlib.Core.List.{List, [], ◌∷◌, map}
+use Prim.Native.Nat.{ℕ}
+use borrow.Author.Tests.{tests}
+use Rattle.std.specs.List.{list_all}
+use Rattle.std.proofs.Common.{rules}
+use Rattle.std.proofs.lemmas.Iterator.{YieldsList-from_slice}
+use Rattle.std.proofs.lemmas.Iterator.Search.{all_from_yields_List}
+use Rattle.whole.specs.Marks.{all_true}
+use Rattle.app_feed.specs.Received.{is_pattern}
 use Rattle.app_feed.proofs.reading.all_patterns.Goals as goal
 
-pub loop-k-init : goal.loop-k-init
-loop-k-init c = (omega arith, refl)
-
-pub returns-then-not-is_pattern : goal.returns-then-not-is_pattern
-returns-then-not-is_pattern c =
-    let l = c.loop-k in
-    sym (l.invariant.1 ∙ all_out _ 0 _ l.k (omega arith) (taken c.is_pattern.ensures c.if-not-is_pattern.true-raw))
-
-pub loop-k-preserved : goal.loop-k-preserved
-loop-k-preserved c =
-    let l = c.loop-k in
-    (omega arith, l.invariant.1 ∙ all_next _ 0 _ l.k (omega arith) (left c.is_pattern.ensures c.if-not-is_pattern.false-raw))
+all_marks : {A : Type 0} (p : A → Bool) (xs : List A) → list_all p xs ≡ all_true (map p xs)
+unfolding all_true
+all_marks p [] = refl
+all_marks p (x ∷ xs) = ap (λ (t : Bool). p x && t) (all_marks p xs)
 
 pub returns : goal.returns
-returns c = let l = c.loop-k in sym (l.invariant.1 ∙ all_end _ 0 _ l.k (omega arith))
+returns c =
+    all_from_yields_List is_pattern _ _ c.all.result c.all.ensures.ran (YieldsList-from_slice c.args.bits.now cc) (λ x b q k. search (rules, tests))
+    ∙ all_marks is_pattern c.args.bits.now

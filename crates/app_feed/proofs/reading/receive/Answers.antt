@@ -3,44 +3,43 @@ use mathlib.Core.Path.{◌≡◌, sym, ap, ◌∙◌}
 use mathlib.Core.Bool.{not}
 use mathlib.Core.List.{List}
 use Prim.Native.Nat.{ℕ}
-use native.Mathlib.Omega.{arith}
 use borrow.Author.Tests.{eq-eqb, ne_eqb}
+use Rattle.std.specs.Prelude.{Err}
+use Rattle.whole.specs.Codes.{refusal_code}
 use Rattle.whole.specs.Refusals.{leaves}
+use Rattle.whole.specs.declared.codes.Refusal.{Refusal}
+use Rattle.whole.specs.declared.codes.Refusal.TheVariants.{WrongLength, OutOfBounds}
 use Rattle.whole.proofs.Refusals.{Code, none, hit, miss, code, kept, changed}
-use Rattle.whole.proofs.Tests.{left, taken, denied}
+use Rattle.whole.proofs.Tests.{denied}
 use Rattle.engine.specs.Report.{no_figures}
+use Rattle.engine.proofs.Exits.{refusal_not_0}
 use Rattle.app_feed.specs.Floats.{floats_of, floats_at}
-use Rattle.app_feed.specs.Received.{read_refusals, received_of}
+use Rattle.app_feed.specs.Received.{Received, read_refusals, received_as, received_of}
 use Rattle.app_feed.specs.declared.floats.Floats.{Floats}
-use Rattle.app_feed.specs.declared.reading.Received.{Received}
 use Rattle.app_feed.proofs.reading.receive.Goals as goal
 
 -- refused, or not
-turned_away : (bits : List ℕ) {n : ℕ} {r : Received} → Code (read_refusals bits) n → (n ≡ 0 → ⊥) → r ≡ record { code = n; figures = floats_of no_figures }
-    → r ≡ received_of bits
+turned_away : (bits : List ℕ) (refusal : Refusal) → Code (read_refusals bits) (refusal_code refusal) → received_as (Err refusal) ≡ received_of bits
 unfolding received_of
-turned_away bits {n} p h e =
-    let zeros = kept n (floats_at bits) (floats_of no_figures) h ∙ ap (λ (k : ℕ). leaves k (floats_at bits) (floats_of no_figures)) (code p) in
-    e ∙ (λ i. record { code = code p i; figures = zeros i })
+turned_away bits refusal p =
+    let zeros = kept (refusal_code refusal) (floats_at bits) (floats_of no_figures) (refusal_not_0 refusal)
+    ∙ ap (λ (k : ℕ). leaves k (floats_at bits) (floats_of no_figures)) (code p) in
+    λ i. record { code = code p i; figures = zeros i }
 
 read : (bits : List ℕ) {x : Floats} → Code (read_refusals bits) 0 → x ≡ floats_at bits → ◌≡◌ {A = Received} (record { code = 0; figures = x }) (received_of bits)
 unfolding received_of
 read bits p e = λ i. record { code = code p i; figures = (e ∙ changed _ (floats_at bits) (floats_of no_figures) (sym (code p))) i }
 
 pub returns-then-bits-ne-COUNT : goal.returns-then-bits-ne-COUNT
-returns-then-bits-ne-COUNT c = turned_away _ (hit (ap not (ne_eqb _ 5 c.if-bits-ne-COUNT.true))) (λ z. absurd (omega arith)) c.refused.ensures
+returns-then-bits-ne-COUNT c = turned_away _ WrongLength (hit (ap not (ne_eqb _ 5 c.if-bits-ne-COUNT.true)))
 
 pub returns-then-not-all_patterns : goal.returns-then-not-all_patterns
 returns-then-not-all_patterns c =
-    turned_away _
-    (miss (denied (eq-eqb _ 5 c.if-bits-ne-COUNT.false)) (hit (ap not (taken c.all_patterns.ensures c.if-not-all_patterns.true-raw))))
-    (λ z. absurd (omega arith)) c.refused-then-not-all_patterns.ensures
+    turned_away _ OutOfBounds (miss (denied (eq-eqb _ 5 c.if-bits-ne-COUNT.false)) (hit (ap not (sym c.if-not-all_patterns.ensures))))
 
-pub floats_at-requires : goal.floats_at-requires
-floats_at-requires c = (c.if-bits-ne-COUNT.false, left c.all_patterns.ensures c.if-not-all_patterns.false-raw)
+pub floats_at-found-requires : goal.floats_at-found-requires
+floats_at-found-requires c = (c.if-bits-ne-COUNT.false, sym c.if-not-all_patterns.ensures)
 
 pub returns : goal.returns
 returns c =
-    read _
-    (miss (denied (eq-eqb _ 5 c.if-bits-ne-COUNT.false)) (miss (denied (left c.all_patterns.ensures c.if-not-all_patterns.false-raw)) none))
-    c.floats_at.ensures
+    read _ (miss (denied (eq-eqb _ 5 c.if-bits-ne-COUNT.false)) (miss (ap not (sym c.if-not-all_patterns.ensures)) none)) c.floats_at-found.ensures
