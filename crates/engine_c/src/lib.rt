@@ -8,14 +8,19 @@ ghost use Rattle.engine.specs.Refused.{place_of};
 ghost use Rattle.engine.specs.Calls.{answer, outcome_of, opening, moving, ordering, rolling};
 ghost use Rattle.engine_c.specs.Face.{terms, filled, filled_report, filled_floats, covered, screen, screen_of};
 
+use app_feed::Gauge;
 use book::Terms;
-use whole::codes;
+use rates::Tables;
+use whole::Refusal;
 
 // The engine's calls for other languages: each passes its numbers and slices on. A slice is a pointer and a length; a number is itself.
 // include/single_limit.h declares them.
 
 // Numbers of a report.
 const FIGURES: usize = 5;
+
+// The code of a call that nothing turned away.
+const DONE: u8 = 0;
 
 // Check tables: the code; the place of the first broken number, with code 2, or of the first laxer one, with 13, goes to `place`, else 0.
 #[unsafe(no_mangle)]
@@ -27,9 +32,22 @@ pub extern "C" fn single_limit_check_tables(
 ) -> u8
     ensures { (result ≡ check_code (given clearing own groups)) × (place.new ≡ check_place (given clearing own groups)) }
 {
-    let checked = engine::check_tables(clearing, own, groups);
-    *place = checked.place as u64;
-    checked.code
+    let tables = Tables {
+        clearing,
+        own,
+        groups,
+    };
+    let checked = engine::check_tables(tables);
+    match checked {
+        Ok(()) => {
+            *place = 0;
+            DONE
+        }
+        Err(fault) => {
+            *place = fault.place() as u64;
+            u8::from(Refusal::from(fault))
+        }
+    }
 }
 
 // Whether the row in force of an asset keeps its rules and passes the cover test: 1, else 0.
@@ -51,7 +69,7 @@ pub extern "C" fn single_limit_covers<'a>(clearing: &'a [i64], own: &'a [i64], a
 pub extern "C" fn single_limit_open(book: &mut [i64], account: i64, kind: i64, code: i64) -> u8
     ensures { answer result book ≡ outcome_of (opening (place_of account) kind code) (found book) }
 {
-    engine::open(book, account, kind, code)
+    whole::code(engine::open(book, account, kind, code))
 }
 
 // Move collateral.
@@ -67,7 +85,12 @@ pub extern "C" fn single_limit_move<'a>(
 ) -> u8
     ensures { answer result book ≡ outcome_of (moving (given clearing own groups) (place_of account) asset amount) (found book) }
 {
-    engine::move_collateral(book, clearing, own, groups, account, asset, amount)
+    let tables = Tables {
+        clearing,
+        own,
+        groups,
+    };
+    whole::code(engine::move_collateral(book, tables, account, asset, amount))
 }
 
 // Order. Its numbers come one by one, as C passes them.
@@ -93,7 +116,12 @@ pub extern "C" fn single_limit_order<'a>(
         quantity,
         money,
     };
-    engine::order(book, clearing, own, groups, account, o)
+    let tables = Tables {
+        clearing,
+        own,
+        groups,
+    };
+    whole::code(engine::order(book, tables, account, o))
 }
 
 // Roll an account.
@@ -101,7 +129,7 @@ pub extern "C" fn single_limit_order<'a>(
 pub extern "C" fn single_limit_roll(book: &mut [i64], account: i64) -> u8
     ensures { answer result book ≡ outcome_of (rolling (place_of account)) (found book) }
 {
-    engine::roll(book, account)
+    whole::code(engine::roll(book, account))
 }
 
 // Report: the code; the five figures go to `figures`, five numbers. Another length of it is code 1, and nothing is written.
@@ -117,21 +145,29 @@ pub extern "C" fn single_limit_report<'a>(
     ensures { filled result figures ≡ filled_report (given clearing own groups) (place_of account) (state book.now) figures.old }
 {
     if figures.len() != FIGURES {
-        return codes::WRONG_LENGTH;
+        return u8::from(Refusal::WrongLength);
     }
-    let reported = engine::report(book, clearing, own, groups, account);
-    let found = reported.figures;
-    let valuation = found.valuation;
-    let market = found.market;
-    let interest = found.interest;
-    let discount = found.discount;
-    let limit = found.limit;
-    figures[0] = valuation;
-    figures[1] = market;
-    figures[2] = interest;
-    figures[3] = discount;
-    figures[4] = limit;
-    reported.code
+    let tables = Tables {
+        clearing,
+        own,
+        groups,
+    };
+    match engine::report(book, tables, account) {
+        Ok(found) => {
+            figures.copy_from_slice(&[
+                found.valuation,
+                found.market,
+                found.interest,
+                found.discount,
+                found.limit,
+            ]);
+            DONE
+        }
+        Err(refusal) => {
+            figures.copy_from_slice(&[0; FIGURES]);
+            u8::from(refusal)
+        }
+    }
 }
 
 // The app's feed: the code; the floats' bits go to `bits`, five numbers, unless it is refused; the gauge goes to `gauge` as a number and to `shown`
@@ -149,11 +185,19 @@ pub extern "C" fn single_limit_app<'a>(
 ) -> u8
     ensures { screen result bits gauge shown ≡ screen_of (given clearing own groups) (place_of account) (state book.now) bits.old }
 {
-    let fed = app_feed::feed(book, clearing, own, groups, account, bits);
-    let drawn = fed.gauge;
-    *gauge = app_feed::gauge::number(drawn);
-    *shown = app_feed::gauge::shown(drawn);
-    fed.code
+    let tables = Tables {
+        clearing,
+        own,
+        groups,
+    };
+    let fed = app_feed::feed(book, tables, account, bits);
+    let (code, drawn) = match fed {
+        Ok(fed) => (DONE, fed.gauge),
+        Err(refusal) => (u8::from(refusal), Gauge::Empty),
+    };
+    *gauge = u8::from(drawn);
+    *shown = drawn.shown();
+    code
 }
 
 // Five numbers read back: the code; the five floats go to `figures`, five of them, zeros when refused. Another length of it is code 1, and nothing is
@@ -163,14 +207,22 @@ pub extern "C" fn single_limit_app_read(bits: &[u64], figures: &mut [f64]) -> u8
     ensures { filled result figures ≡ filled_floats bits.now figures.old }
 {
     if figures.len() != FIGURES {
-        return codes::WRONG_LENGTH;
+        return u8::from(Refusal::WrongLength);
     }
-    let received = app_feed::receive(bits);
-    let found = received.figures;
-    figures[0] = found.valuation;
-    figures[1] = found.market;
-    figures[2] = found.interest;
-    figures[3] = found.discount;
-    figures[4] = found.limit;
-    received.code
+    match app_feed::receive(bits) {
+        Ok(read) => {
+            figures.copy_from_slice(&[
+                read.valuation,
+                read.market,
+                read.interest,
+                read.discount,
+                read.limit,
+            ]);
+            DONE
+        }
+        Err(refusal) => {
+            figures.copy_from_slice(&[0.0; FIGURES]);
+            u8::from(refusal)
+        }
+    }
 }

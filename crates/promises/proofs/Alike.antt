@@ -27,7 +27,7 @@ use Rattle.figures.specs.declared.limit.Figures.{Figures}
 use Rattle.engine.specs.State.{State, block_at, changed_at}
 use Rattle.engine.specs.Refused.{table_gate, holding_refusals, report_refusals, figures_at}
 use Rattle.engine.specs.Report.{report_of, no_figures, answer_of}
-use Rattle.engine.specs.declared.reporting.Reported.{Reported}
+use Rattle.engine.specs.Report.{Reported}
 use Rattle.engine.proofs.Gates.{table_passed, report_passed}
 use Rattle.engine.proofs.Judged.{code_still, on_still}
 use Rattle.promises.specs.EveryCall.{Alike, SameReport}

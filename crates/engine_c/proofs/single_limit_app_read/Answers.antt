@@ -1,25 +1,33 @@
 -- `engine_c::single_limit_app_read` meets its contract: a buffer of five takes the five floats, any other is turned away. Assumes nothing.
-use mathlib.Core.Path.{ap, ◌∙◌}
-use native.Mathlib.Omega.{arith}
-use lib.ListN.{length-set}
-use Rattle.app_feed.specs.Floats.{five_floats}
-use Rattle.app_feed.specs.declared.reading.Received.{Received}
-use Rattle.app_feed.proofs.Five.{filled}
+use mathlib.Core.Path.{◌≡◌, refl, ap, ◌∙◌}
+use mathlib.Core.List.{List, [], ◌∷◌}
+use lib.Ieee.{Float, binary64, of_int, of_bits}
+use Rattle.engine.specs.Report.{no_figures}
+use Rattle.app_feed.specs.Floats.{floats_of, five_floats}
+use Rattle.app_feed.specs.Received.{Received}
 use Rattle.engine_c.specs.Face.{filled_floats}
 use Rattle.engine_c.proofs.Filling.{turned_away, taken}
 use Rattle.engine_c.proofs.single_limit_app_read.Goals as goal
 
+-- the literal 0.0 is the float of zero
+zeros : let z = of_bits binary64 0 in ◌≡◌ {A = List Float} (z ∷ z ∷ z ∷ z ∷ z ∷ []) (five_floats (floats_of no_figures))
+unfolding floats_of of_int of_bits
+zeros = refl
+
 pub returns-then-figures-ne-FIGURES : goal.returns-then-figures-ne-FIGURES
 unfolding filled_floats
-returns-then-figures-ne-FIGURES c = turned_away _ _ _ c.if-figures-ne-FIGURES.true
+returns-then-figures-ne-FIGURES c = rw c.from.ensures (turned_away _ _ _ c.if-figures-ne-FIGURES.true)
 
-pub returns : goal.returns
+pub returns-in-Ok : goal.returns-in-Ok
 unfolding filled_floats
-returns c =
-    let a = c.args in
-    let l = c.if-figures-ne-FIGURES.false in
-    let r = c.receive-received.ensures in
-    taken a.figures.now l (ap (λ (r : Received). r.code) r) (filled a.figures.now l _ _ _ _ _ ∙ ap (λ (r : Received). five_floats r.figures) r)
+returns-in-Ok c =
+    let r = c.in-Ok.ensures in
+    taken c.args.figures.now c.if-figures-ne-FIGURES.false (ap (λ (r : Received). r.code) r)
+    (c.copy_from_slice.ensures.after ∙ ap (λ (r : Received). five_floats r.figures) r)
 
-pub bounds-figures-4 : goal.bounds-figures-4
-bounds-figures-4 c = let l = c.if-figures-ne-FIGURES.false in simp length-set (omega (arith, l))
+pub returns-in-Err : goal.returns-in-Err
+unfolding filled_floats
+returns-in-Err c =
+    let r = c.in-Err.ensures in
+    taken c.args.figures.now c.if-figures-ne-FIGURES.false (c.from-in-Err.ensures ∙ ap (λ (r : Received). r.code) r)
+    (c.copy_from_slice-in-Err.ensures.after ∙ zeros ∙ ap (λ (r : Received). five_floats r.figures) r)

@@ -3,4 +3,4 @@ use mir.Facts.{to_z-of_z}
 use Rattle.engine_c.proofs.single_limit_roll.Goals as goal
 
 pub returns : goal.returns
-returns c = let f = c.ranges in simp (to_z-of_z f.account) at c.roll.ensures
+returns c = let f = c.ranges in rw c.code.ensures (simp (to_z-of_z f.account) at c.roll.ensures)
