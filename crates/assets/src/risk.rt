@@ -47,13 +47,7 @@ pub(crate) fn sum_of(positions: [i64; 8]) -> i64
     requires { PositionRanges positions }
     ensures { (result ≡ position_sum positions) × (result within 64000000) }
 {
-    let mut sum: i64 = 0;
-    let mut d: usize = 0;
-    while d < DATE_COUNT {
-        sum += positions[d];
-        d += 1;
-    }
-    sum
+    positions.iter().sum()
 }
 
 // The sum of the positive dates.
@@ -61,14 +55,7 @@ fn long_sum(positions: [i64; 8]) -> i64
     requires { PositionRanges positions }
     ensures { (result ≡ long_sum positions) × (result upto 64000000) }
 {
-    let mut sum: i64 = 0;
-    let mut d: usize = 0;
-    while d < DATE_COUNT {
-        let position = positions[d];
-        sum += whole::greater(0, position);
-        d += 1;
-    }
-    sum
+    positions.iter().map(|position| whole::greater(0, *position)).sum()
 }
 
 // The side that a position is charged on: a rise where it is short. Here and in C' nothing branches on a position: which way it goes nobody can foresee, the
@@ -127,11 +114,6 @@ pub(crate) fn interest_risk(row: &[i64], positions: [i64; 8]) -> i64
     requires { RowRanges row.now × PositionRanges positions }
     ensures { (result ≡ interest_risk row.now positions) × (result upto 640000000000000) }
 {
-    let mut sum: i64 = 0;
-    let mut d: usize = 0;
-    while d < DATE_COUNT {
-        sum += interest_of(row, positions, d);
-        d += 1;
-    }
+    let sum: i64 = (0..DATE_COUNT).map(|d| interest_of(row, positions, d)).sum();
     whole::size(sum)
 }
