@@ -39,7 +39,7 @@ pub(crate) fn none_holds(book: &[i64], members: Members, a: usize) -> bool
     requires { MemberRanges book.now members × (a < 16) }
     ensures { result ≡ every members.count (λ k. all_zero (holding_of (block_of book.now (member_at members k)) a)) }
 {
-    (0..members.count).all(|k| is_nothing(holding_of(book, members, k, a)))
+    is_nothing(holding_of(book, members, 0, a)) && (1..members.count).all(|k| is_nothing(holding_of(book, members, k, a)))
 }
 
 // The record of asset a over the members: the first one's, with each other's added.

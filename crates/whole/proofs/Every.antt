@@ -67,3 +67,7 @@ module _ (f : ℕ → Bool) where
       ap (λ (m : ℕ). list_all f (range_with_len 0 m)) (sym (add-one n)) ∙ sym (list_all-map (λ b. b) f (range_with_len 0 (n + 1)))
       ∙ ap (list_all (λ b. b)) (map-range_with_len_more f 0 n n (omega arith)) ∙ list_all-append (λ b. b) (map f (range_with_len 0 n)) (f n ∷ [])
       ∙ ap₂ ◌&&◌ (list_all-map (λ b. b) f (range_with_len 0 n) ∙ every_all n) (and-true (f n))
+
+  -- and of those from 1 on, where 0 passes
+  pub every_rest : (n m : ℕ) → f 0 ≡ true → 1 + n ≡ m → list_all f (range_with_len 1 n) ≡ every m f
+  every_rest n m e q = ap (λ (b : Bool). b && list_all f (range_with_len 1 n)) (sym e) ∙ every_all (suc n) ∙ ap (λ (k : ℕ). every k f) (omega arith)

@@ -1,17 +1,27 @@
--- `joint::none_holds` meets its contract: `all` over the members' places is the test that each of them passes. Assumes nothing.
-use mathlib.Core.Path.{refl, ◌∙◌}
+-- `joint::none_holds` meets its contract: the first member's holding is nothing, and `all` finds that of each other so. Assumes nothing.
+use mathlib.Core.Path.{refl, sym, ap, ◌∙◌}
+use Prim.Native.Nat.{ℕ, ◌-◌}
 use native.Mathlib.Omega.{arith}
 use borrow.Author.Rules.{rules}
 use Rattle.std.proofs.lemmas.Iterator.{YieldsList-from_range}
 use Rattle.std.proofs.lemmas.Iterator.Search.{all_from_yields_List}
 use Rattle.whole.specs.Marks.{all_zero}
-use Rattle.whole.proofs.Every.{every_all}
+use Rattle.whole.proofs.Every.{every_out, every_rest}
+use Rattle.whole.proofs.Tests.{passed, failed}
 use Rattle.book.specs.Block.{block_of, holding_of}
 use Rattle.book.specs.Members.{member_at}
 use Rattle.figures.proofs.joint.none_holds.Goals as goal
 
-pub returns : goal.returns
-returns c =
+pub returns-then-is_nothing : goal.returns-then-is_nothing
+returns-then-is_nothing c =
     let a = c.args in
-    all_from_yields_List (λ k. all_zero (holding_of (block_of a.book.now (member_at a.members k)) a.a)) _ _ _ c.all.ensures.ran (YieldsList-from_range 0 a.members.count a.members.count refl (omega arith)) (λ k b q h. search rules)
-    ∙ every_all _ a.members.count
+    let holds_nothing = λ (k : ℕ). all_zero (holding_of (block_of a.book.now (member_at a.members k)) a.a) in
+    let first = ap all_zero (sym c.holding_of.ensures) ∙ passed c.is_nothing.ensures c.if-is_nothing.true in
+    let some = c.requires.0.some in
+    all_from_yields_List holds_nothing _ _ _ c.all.ensures.ran (YieldsList-from_range 1 a.members.count (a.members.count - 1) refl refl) (λ k b q h. search rules)
+    ∙ every_rest holds_nothing (a.members.count - 1) a.members.count first (omega arith)
+
+pub returns-else-is_nothing : goal.returns-else-is_nothing
+returns-else-is_nothing c =
+    let held = ap all_zero (sym c.holding_of.ensures) ∙ failed c.is_nothing.ensures c.if-is_nothing.false in
+    c.if-is_nothing.false ∙ sym (every_out _ _ 0 c.requires.0.some held)
