@@ -18,7 +18,7 @@ use std::array;
 // One asset's record, from the account's kind, the row in force and the asset's 17 numbers (document 01; clauses 4.2, 4.9).
 
 // One asset's working record: its regime, its part of the valuation, and its adjusted positions by date.
-#[derive(Clone, Copy)]
+#[derive(Clone, Copy, Debug, PartialEq, Eq)]
 pub struct Asset {
     pub regime: Regime,
     pub worth: i64,
@@ -43,7 +43,7 @@ fn adjusted_collateral(regime: Regime, holding: &[i64], nets: [i64; 8]) -> i64
 {
     let traded = risk::sum_of(nets);
     let held = holding[in_block::COLLATERAL];
-    collateral::adjust(regime, held, held + traded)
+    regime.adjust(held, held + traded)
 }
 
 // The position of date d, with c added at date 0.
@@ -74,7 +74,7 @@ fn left_out(regime: Regime, kind: usize, row: &[i64], holding: &[i64]) -> i64
     if !whole::number_is(row, in_row::KIND, CURRENCY) {
         return 0;
     }
-    let share = collateral::share_in_force(regime, kind, row);
+    let share = regime.share_in_force(kind, row);
     if !whole::lies_between(0, share, 0) {
         return 0;
     }
@@ -107,7 +107,7 @@ pub fn asset_of(kind: usize, row: &[i64], holding: &[i64]) -> Asset
     let regime = collateral::regime_of(kind, row);
     let nets = positions_of(holding, 0);
     let c = adjusted_collateral(regime, holding, nets);
-    let valued = collateral::value(regime, c);
+    let valued = regime.value(c);
     let out = left_out(regime, kind, row, holding);
     let worth = worth_of(row, holding, valued - out);
     let positions = positions_of(holding, c);

@@ -5,7 +5,6 @@ ghost use Rattle.rates.specs.Ranges.{RowRanges};
 ghost use Rattle.assets.specs.Risk.{charge, units_charge, side_risk, side_of, position_sum, long_sum, market_risk, interest_of, interest_risk};
 ghost use Rattle.assets.specs.Ranges.{PositionRanges};
 
-use crate::collateral;
 use crate::record::Asset;
 use rates::in_row;
 use rates::units::{DATE_COUNT, WHOLE};
@@ -74,10 +73,8 @@ pub(crate) fn market_risk(row: &[i64], x: Asset, sum: i64) -> i64
     requires { RowRanges row.now × PositionRanges x.positions × (sum ≡ position_sum x.positions) × (sum within 64000000) }
     ensures { (result ≡ market_risk row.now x) × (result upto 640000000000000) }
 {
-    let regime = x.regime;
-    if collateral::is_special(regime) {
-        let positions = x.positions;
-        let longs = long_sum(positions);
+    if x.regime.is_special() {
+        let longs = long_sum(x.positions);
         let falling = side_risk(row, in_row::FALL, longs);
         let rising = side_risk(row, in_row::RISE, longs - sum);
         return whole::greater(falling, rising);
