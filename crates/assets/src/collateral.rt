@@ -10,7 +10,7 @@ use rates::units::WHOLE;
 // Share in force, regime, C' and C'' (document 01; clauses 2.4.1, 2.4.2, 4.4 to 4.8, 4.10).
 
 // How an asset counts as collateral; two of the four carry the share in force.
-#[derive(Clone, Copy)]
+#[derive(Clone, Copy, Debug, PartialEq, Eq)]
 pub enum Regime {
     Special,
     NotRecorded,
@@ -71,31 +71,6 @@ pub(crate) fn regime_of(kind: usize, row: &[i64]) -> Regime
     Regime::Accepted(share)
 }
 
-// The share in force: none under special delivery, and where the regime carries one, that.
-pub(crate) fn share_in_force(regime: Regime, kind: usize, row: &[i64]) -> i64
-    requires { ShareRange regime × RowRanges row.now }
-    ensures { (result ≡ share_in_force regime kind row.now) × (result upto 10000) }
-{
-    match regime {
-        Regime::Special => 0,
-        Regime::NotRecorded => share_by_kind(kind, row),
-        Regime::Partial(share) => share,
-        Regime::Accepted(share) => share,
-    }
-}
-
-// Whether a regime is that of special delivery.
-pub(crate) fn is_special(regime: Regime) -> bool
-    ensures { result ≡ is_special regime }
-{
-    match regime {
-        Regime::Special => true,
-        Regime::NotRecorded => false,
-        Regime::Partial(_) => false,
-        Regime::Accepted(_) => false,
-    }
-}
-
 // What counts beside what covers the account's own sales. Of a debt nothing is free, and nothing is taken of it.
 fn counted_of(share: i64, held: i64, net: i64) -> i64
     requires { (share upto 10000) × (held within 1000000) × (net within 10000000) }
@@ -107,28 +82,48 @@ fn counted_of(share: i64, held: i64, net: i64) -> i64
     held - free + whole::lesser(free, taken)
 }
 
-// C' from C and N.
-pub(crate) fn adjust(regime: Regime, held: i64, net: i64) -> i64
-    requires { ShareRange regime × (held within 1000000) × (net within 10000000) }
-    ensures { (result ≡ adjusted regime held net) × (result within 1000000) }
-{
-    match regime {
-        Regime::Special => 0,
-        Regime::NotRecorded => whole::lesser(0, held),
-        Regime::Partial(share) => counted_of(share, held, net),
-        Regime::Accepted(share) => counted_of(share, held, net),
+impl Regime {
+    // The share in force: none under special delivery, and where the regime carries one, that.
+    pub(crate) fn share_in_force(self, kind: usize, row: &[i64]) -> i64
+        requires { ShareRange self × RowRanges row.now }
+        ensures { (result ≡ share_in_force self kind row.now) × (result upto 10000) }
+    {
+        match self {
+            Regime::Special => 0,
+            Regime::NotRecorded => share_by_kind(kind, row),
+            Regime::Partial(share) | Regime::Accepted(share) => share,
+        }
     }
-}
 
-// C'' from C'.
-pub(crate) fn value(regime: Regime, c: i64) -> i64
-    requires { c within 1000000 }
-    ensures { (result ≡ valued regime c) × (result within 1000000) }
-{
-    match regime {
-        Regime::Special => c,
-        Regime::NotRecorded => c,
-        Regime::Partial(_) => whole::lesser(0, c),
-        Regime::Accepted(_) => c,
+    // Whether it is that of special delivery.
+    pub(crate) fn is_special(self) -> bool
+        ensures { result ≡ is_special self }
+    {
+        matches!(self, Regime::Special)
+    }
+
+    // C' from C and N.
+    pub(crate) fn adjust(self, held: i64, net: i64) -> i64
+        requires { ShareRange self × (held within 1000000) × (net within 10000000) }
+        ensures { (result ≡ adjusted self held net) × (result within 1000000) }
+    {
+        match self {
+            Regime::Special => 0,
+            Regime::NotRecorded => whole::lesser(0, held),
+            // Two arms: of these two joined by `|` the kit of today makes no proof.
+            Regime::Partial(share) => counted_of(share, held, net),
+            Regime::Accepted(share) => counted_of(share, held, net),
+        }
+    }
+
+    // C'' from C'.
+    pub(crate) fn value(self, c: i64) -> i64
+        requires { c within 1000000 }
+        ensures { (result ≡ valued self c) × (result within 1000000) }
+    {
+        match self {
+            Regime::Partial(_) => whole::lesser(0, c),
+            Regime::Special | Regime::NotRecorded | Regime::Accepted(_) => c,
+        }
     }
 }

@@ -11,7 +11,7 @@ use rates::in_row;
 // One asset's part of the sums, from the row in force and its record (document 01; clause 7 for the side and the group).
 
 // One asset's part of the sums over the assets: worth, both risks, the market risk again on the side of its position sum, and its spread group.
-#[derive(Clone, Copy)]
+#[derive(Clone, Copy, Debug, PartialEq, Eq)]
 pub struct Part {
     pub worth: i64,
     pub market: i64,

@@ -13,11 +13,12 @@ use crate::{collateral, risk};
 use book::in_block;
 use rates::in_row;
 use rates::units::DATE_COUNT;
+use std::array;
 
 // One asset's record, from the account's kind, the row in force and the asset's 17 numbers (document 01; clauses 4.2, 4.9).
 
 // One asset's working record: its regime, its part of the valuation, and its adjusted positions by date.
-#[derive(Clone, Copy)]
+#[derive(Clone, Copy, Debug, PartialEq, Eq)]
 pub struct Asset {
     pub regime: Regime,
     pub worth: i64,
@@ -42,7 +43,7 @@ fn adjusted_collateral(regime: Regime, holding: &[i64], nets: [i64; 8]) -> i64
 {
     let traded = risk::sum_of(nets);
     let held = holding[in_block::COLLATERAL];
-    collateral::adjust(regime, held, held + traded)
+    regime.adjust(held, held + traded)
 }
 
 // The position of date d, with c added at date 0.
@@ -62,11 +63,7 @@ fn positions_of(holding: &[i64], c: i64) -> [i64; 8]
     requires { HoldingRanges holding.now × (c within 1000000) }
     ensures { result ≡ tabulated 8 (position holding.now c) }
 {
-    let mut positions = [0i64; 8];
-    for d in 0..DATE_COUNT {
-        positions[d] = position_of(holding, c, d);
-    }
-    positions
+    array::from_fn(|d| position_of(holding, c, d))
 }
 
 // The claims of date 0 that the valuation leaves out.
@@ -77,7 +74,7 @@ fn left_out(regime: Regime, kind: usize, row: &[i64], holding: &[i64]) -> i64
     if !whole::number_is(row, in_row::KIND, CURRENCY) {
         return 0;
     }
-    let share = collateral::share_in_force(regime, kind, row);
+    let share = regime.share_in_force(kind, row);
     if !whole::lies_between(0, share, 0) {
         return 0;
     }
@@ -99,13 +96,7 @@ fn worth_of(row: &[i64], holding: &[i64], c: i64) -> i64
     requires { RowRanges row.now × HoldingRanges holding.now × (c within 2000000) }
     ensures { (result ≡ Σ< 8 (worth_of row.now holding.now c)) × (result within 240000000000000) }
 {
-    let mut sum: i64 = 0;
-    let mut d: usize = 0;
-    while d < DATE_COUNT {
-        sum += worth_of_date(row, holding, c, d);
-        d += 1;
-    }
-    sum
+    (0..DATE_COUNT).map(|d| worth_of_date(row, holding, c, d)).sum()
 }
 
 // The asset's working record. Claims less obligations are made once, as positions with nothing added, for T and for all that follows.
@@ -116,7 +107,7 @@ pub fn asset_of(kind: usize, row: &[i64], holding: &[i64]) -> Asset
     let regime = collateral::regime_of(kind, row);
     let nets = positions_of(holding, 0);
     let c = adjusted_collateral(regime, holding, nets);
-    let valued = collateral::value(regime, c);
+    let valued = regime.value(c);
     let out = left_out(regime, kind, row, holding);
     let worth = worth_of(row, holding, valued - out);
     let positions = positions_of(holding, c);
@@ -132,16 +123,9 @@ pub fn with_record(x: Asset, y: Asset) -> Asset
     requires { AssetRanges 3 x × AssetRanges 1 y }
     ensures { result ≡ with_record x y }
 {
-    let before = x.positions;
-    let more = y.positions;
-    let mut positions = [0i64; 8];
-    for d in 0..DATE_COUNT {
-        positions[d] = before[d] + more[d];
-    }
-    let regime = x.regime;
     Asset {
-        regime,
+        regime: x.regime,
         worth: x.worth + y.worth,
-        positions,
+        positions: array::from_fn(|d| x.positions[d] + y.positions[d]),
     }
 }

@@ -5,7 +5,6 @@ ghost use Rattle.rates.specs.Ranges.{RowRanges};
 ghost use Rattle.assets.specs.Risk.{charge, units_charge, side_risk, side_of, position_sum, long_sum, market_risk, interest_of, interest_risk};
 ghost use Rattle.assets.specs.Ranges.{PositionRanges};
 
-use crate::collateral;
 use crate::record::Asset;
 use rates::in_row;
 use rates::units::{DATE_COUNT, WHOLE};
@@ -47,13 +46,7 @@ pub(crate) fn sum_of(positions: [i64; 8]) -> i64
     requires { PositionRanges positions }
     ensures { (result ≡ position_sum positions) × (result within 64000000) }
 {
-    let mut sum: i64 = 0;
-    let mut d: usize = 0;
-    while d < DATE_COUNT {
-        sum += positions[d];
-        d += 1;
-    }
-    sum
+    positions.iter().sum()
 }
 
 // The sum of the positive dates.
@@ -61,14 +54,7 @@ fn long_sum(positions: [i64; 8]) -> i64
     requires { PositionRanges positions }
     ensures { (result ≡ long_sum positions) × (result upto 64000000) }
 {
-    let mut sum: i64 = 0;
-    let mut d: usize = 0;
-    while d < DATE_COUNT {
-        let position = positions[d];
-        sum += whole::greater(0, position);
-        d += 1;
-    }
-    sum
+    positions.iter().map(|position| whole::greater(0, *position)).sum()
 }
 
 // The side that a position is charged on: a rise where it is short. Here and in C' nothing branches on a position: which way it goes nobody can foresee, the
@@ -87,10 +73,8 @@ pub(crate) fn market_risk(row: &[i64], x: Asset, sum: i64) -> i64
     requires { RowRanges row.now × PositionRanges x.positions × (sum ≡ position_sum x.positions) × (sum within 64000000) }
     ensures { (result ≡ market_risk row.now x) × (result upto 640000000000000) }
 {
-    let regime = x.regime;
-    if collateral::is_special(regime) {
-        let positions = x.positions;
-        let longs = long_sum(positions);
+    if x.regime.is_special() {
+        let longs = long_sum(x.positions);
         let falling = side_risk(row, in_row::FALL, longs);
         let rising = side_risk(row, in_row::RISE, longs - sum);
         return whole::greater(falling, rising);
@@ -127,11 +111,6 @@ pub(crate) fn interest_risk(row: &[i64], positions: [i64; 8]) -> i64
     requires { RowRanges row.now × PositionRanges positions }
     ensures { (result ≡ interest_risk row.now positions) × (result upto 640000000000000) }
 {
-    let mut sum: i64 = 0;
-    let mut d: usize = 0;
-    while d < DATE_COUNT {
-        sum += interest_of(row, positions, d);
-        d += 1;
-    }
+    let sum: i64 = (0..DATE_COUNT).map(|d| interest_of(row, positions, d)).sum();
     whole::size(sum)
 }

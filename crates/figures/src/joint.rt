@@ -1,6 +1,6 @@
 ghost use Rattle.std.specs.Prelude.{◌≡◌, ◌<◌, length};
 ghost use Rattle.whole.specs.Marks.{every, all_zero};
-ghost use Rattle.rates.specs.Lent.{lent, given};
+ghost use Rattle.rates.specs.Lent.{numbers_of};
 ghost use Rattle.rates.specs.Ranges.{RowRanges, TableRanges};
 ghost use Rattle.book.specs.Block.{holding_length, block_of, holding_of};
 ghost use Rattle.book.specs.Members.{member_at, over_members, MemberRanges};
@@ -9,6 +9,7 @@ ghost use Rattle.figures.specs.Joint.{member_part};
 
 use assets::{Asset, Part};
 use book::{Members, in_block};
+use rates::Tables;
 
 // One asset in the blocks of the members, which are read where they stand in the book (clause 4.11).
 
@@ -38,18 +39,7 @@ pub(crate) fn none_holds(book: &[i64], members: Members, a: usize) -> bool
     requires { MemberRanges book.now members × (a < 16) }
     ensures { result ≡ every members.count (λ k. all_zero (holding_of (block_of book.now (member_at members k)) a)) }
 {
-    if !is_nothing(holding_of(book, members, 0, a)) {
-        return false;
-    }
-    let count = members.count;
-    let mut k: usize = 1;
-    while k < count {
-        if !is_nothing(holding_of(book, members, k, a)) {
-            return false;
-        }
-        k += 1;
-    }
-    true
+    is_nothing(holding_of(book, members, 0, a)) && (1..members.count).all(|k| is_nothing(holding_of(book, members, k, a)))
 }
 
 // The record of asset a over the members: the first one's, with each other's added.
@@ -57,31 +47,20 @@ pub(crate) fn joint_asset(book: &[i64], members: Members, row: &[i64], a: usize)
     requires { MemberRanges book.now members × RowRanges row.now × (a < 16) }
     ensures { result ≡ joint_of (over_members members) members.kind row.now (λ j. holding_of (block_of book.now j) a) }
 {
-    let kind = members.kind;
-    let count = members.count;
-    let mut x = assets::asset_of(kind, row, holding_of(book, members, 0, a));
-    let mut k: usize = 1;
-    while k < count {
-        let y = assets::asset_of(kind, row, holding_of(book, members, k, a));
+    let mut x = assets::asset_of(members.kind, row, holding_of(book, members, 0, a));
+    for k in 1..members.count {
+        let y = assets::asset_of(members.kind, row, holding_of(book, members, k, a));
         x = assets::with_record(x, y);
-        k += 1;
     }
     x
 }
 
 // The part that asset a of the members has in the sums.
-pub(crate) fn member_part<'a>(
-    book: &[i64],
-    members: Members,
-    clearing: &'a [i64],
-    own: &'a [i64],
-    groups: &[i64],
-    a: usize,
-) -> Part
-    requires { MemberRanges book.now members × TableRanges (lent clearing own groups) × (a < 16) }
-    ensures { result ≡ member_part members book.now (given clearing own groups) a }
+pub(crate) fn member_part(book: &[i64], members: Members, tables: Tables<'_>, a: usize) -> Part
+    requires { MemberRanges book.now members × TableRanges (numbers_of tables) × (a < 16) }
+    ensures { result ≡ member_part members book.now (numbers_of tables.entry) a }
 {
-    let row = rates::row_in_force(clearing, own, a);
+    let row = rates::row_in_force(tables.clearing, tables.own, a);
     let x = joint_asset(book, members, row, a);
     assets::part_of(row, x)
 }

@@ -1,7 +1,7 @@
 ghost use Rattle.std.specs.Prelude.{◌≡◌, ◌<◌};
 ghost use Rattle.whole.specs.Bounds.{◌within◌, ◌upto◌};
 ghost use Rattle.whole.specs.Sums.{Σ<};
-ghost use Rattle.rates.specs.Lent.{lent, given};
+ghost use Rattle.rates.specs.Lent.{numbers_of};
 ghost use Rattle.rates.specs.Ranges.{TableRanges};
 ghost use Rattle.book.specs.Block.{block_of};
 ghost use Rattle.book.specs.Ranges.{BlockRanges};
@@ -13,6 +13,7 @@ ghost use Rattle.figures.specs.Ranges.{GroupRanges, PercentRanges, TotalRanges};
 use crate::sums;
 use crate::sums::Totals;
 use book::{Members, in_block};
+use rates::Tables;
 use rates::units::GROUP_COUNT;
 
 // The discount, and the five figures (document 01; clause 7 and Single Limit).
@@ -28,9 +29,6 @@ pub struct Figures {
 }
 
 const HUNDRED_PERCENT: i64 = 100;
-
-// Ruble collateral and eight ruble nets.
-const RUBLE_NUMBERS: usize = in_block::RUBLES_END - in_block::RUBLE_COLLATERAL;
 
 // The discount of group g + 1.
 fn discount_of(groups: &[i64], longs: [i64; 9], shorts: [i64; 9], g: usize) -> i64
@@ -48,13 +46,7 @@ fn discounts(groups: &[i64], longs: [i64; 9], shorts: [i64; 9]) -> i64
     requires { PercentRanges groups.now × GroupRanges 16 longs × GroupRanges 16 shorts }
     ensures { (result ≡ Σ< 8 (discount_of groups.now longs shorts)) × (result upto 81920000000000000) }
 {
-    let mut sum: i64 = 0;
-    let mut g: usize = 0;
-    while g < GROUP_COUNT {
-        sum += discount_of(groups, longs, shorts, g);
-        g += 1;
-    }
-    sum
+    (0..GROUP_COUNT).map(|g| discount_of(groups, longs, shorts, g)).sum()
 }
 
 // Ruble collateral and the ruble nets.
@@ -62,13 +54,7 @@ fn rubles_of(block: &[i64]) -> i64
     requires { BlockRanges block.now }
     ensures { (result ≡ rubles_of block.now) × (result within 900000000000000) }
 {
-    let mut sum: i64 = 0;
-    let mut k: usize = 0;
-    while k < RUBLE_NUMBERS {
-        sum += block[in_block::RUBLE_COLLATERAL + k];
-        k += 1;
-    }
-    sum
+    block[in_block::RUBLE_COLLATERAL..in_block::RUBLES_END].iter().sum()
 }
 
 // The rubles of the members.
@@ -76,14 +62,7 @@ fn joint_rubles(book: &[i64], members: Members) -> i64
     requires { MemberRanges book.now members }
     ensures { (result ≡ over_members members (λ j. rubles_of (block_of book.now j))) × (result within 3600000000000000) }
 {
-    let count = members.count;
-    let mut sum: i64 = 0;
-    let mut k: usize = 0;
-    while k < count {
-        sum += rubles_of(book::member_block(book, members, k));
-        k += 1;
-    }
-    sum
+    (0..members.count).map(|k| rubles_of(book::member_block(book, members, k))).sum()
 }
 
 // The five figures from the sums.
@@ -108,17 +87,11 @@ fn figures_of(totals: Totals, groups: &[i64], rubles: i64) -> Figures
 }
 
 // The five figures of the members.
-pub fn joint_figures<'a>(
-    book: &[i64],
-    members: Members,
-    clearing: &'a [i64],
-    own: &'a [i64],
-    groups: &[i64],
-) -> Figures
-    requires { MemberRanges book.now members × TableRanges (lent clearing own groups) }
-    ensures { result ≡ member_figures members book.now (given clearing own groups) }
+pub fn joint_figures(book: &[i64], members: Members, tables: Tables<'_>) -> Figures
+    requires { MemberRanges book.now members × TableRanges (numbers_of tables) }
+    ensures { result ≡ member_figures members book.now (numbers_of tables.entry) }
 {
-    let totals = sums::totals_of(book, members, clearing, own, groups);
+    let totals = sums::totals_of(book, members, tables);
     let rubles = joint_rubles(book, members);
-    figures_of(totals, groups, rubles)
+    figures_of(totals, tables.groups, rubles)
 }

@@ -1,5 +1,5 @@
 ghost use Rattle.std.specs.Prelude.{◌≡◌};
-ghost use Rattle.rates.specs.Lent.{lent, given};
+ghost use Rattle.rates.specs.Lent.{numbers_of};
 ghost use Rattle.rates.specs.Ranges.{TableRanges};
 ghost use Rattle.book.specs.Members.{MemberRanges};
 ghost use Rattle.figures.specs.Limit.{totals_of};
@@ -7,6 +7,7 @@ ghost use Rattle.figures.specs.Joint.{member_part};
 
 use crate::joint;
 use book::Members;
+use rates::Tables;
 use rates::units::ASSET_COUNT;
 
 // The sums over the assets of the members.
@@ -23,35 +24,26 @@ pub struct Totals {
 
 // The sums over the sixteen assets, which are added up where they stand: no turn copies them. An asset of which no member holds anything adds nothing and is
 // passed by before its row is looked up, so that members cost by what they hold.
-pub(crate) fn totals_of<'a>(
-    book: &[i64],
-    members: Members,
-    clearing: &'a [i64],
-    own: &'a [i64],
-    groups: &[i64],
-) -> Totals
-    requires { MemberRanges book.now members × TableRanges (lent clearing own groups) }
-    ensures { result ≡ totals_of (member_part members book.now (given clearing own groups)) 16 }
+pub(crate) fn totals_of(book: &[i64], members: Members, tables: Tables<'_>) -> Totals
+    requires { MemberRanges book.now members × TableRanges (numbers_of tables) }
+    ensures { result ≡ totals_of (member_part members book.now (numbers_of tables.entry)) 16 }
 {
     let mut valuation: i64 = 0;
     let mut market: i64 = 0;
     let mut interest: i64 = 0;
     let mut long = [0i64; 9];
     let mut short = [0i64; 9];
-    let mut a: usize = 0;
-    while a < ASSET_COUNT {
+    for a in 0..ASSET_COUNT {
         if joint::none_holds(book, members, a) {
-            a += 1;
             continue;
         }
-        let part = joint::member_part(book, members, clearing, own, groups, a);
+        let part = joint::member_part(book, members, tables, a);
         let group = part.group;
         valuation += part.worth;
         market += part.market;
         interest += part.interest;
         long[group] += part.long;
         short[group] += part.short;
-        a += 1;
     }
     Totals {
         valuation,

@@ -6,6 +6,10 @@ use Prim.Native.Nat.{ℕ, zero, suc, ◌+◌, ◌≤◌, ◌<◌}
 use native.Mathlib.Nat.{eq-or-lt_of_le}
 use native.Mathlib.Numerals.{add-one}
 use native.Mathlib.Omega.{arith}
+use mathlib.Core.List.{[], ◌∷◌, map}
+use Rattle.std.specs.List.{list_all, range_with_len}
+use Rattle.std.proofs.lemmas.List.Folds.{list_all-append, list_all-map}
+use Rattle.std.proofs.lemmas.List.FromFn.{map-range_with_len_more}
 use Rattle.whole.specs.Marks.{every}
 use Rattle.whole.proofs.Tests.{and_left, and_right, both, first_out, second_out}
 use Rattle.whole.proofs.Lists.{and-true}
@@ -54,3 +58,16 @@ module _ (f : ℕ → Bool) where
   unfolding every
   every_same g zero h = refl
   every_same g (suc n) h = ap₂ ◌&&◌ (every_same g n (λ a l. h a (omega arith))) (h n (omega arith))
+
+  -- as an iterator's `all` over a range finds it
+  pub every_all : (n : ℕ) → list_all f (range_with_len 0 n) ≡ every n f
+  unfolding every
+  every_all zero = refl
+  every_all (suc n) =
+      ap (λ (m : ℕ). list_all f (range_with_len 0 m)) (sym (add-one n)) ∙ sym (list_all-map (λ b. b) f (range_with_len 0 (n + 1)))
+      ∙ ap (list_all (λ b. b)) (map-range_with_len_more f 0 n n (omega arith)) ∙ list_all-append (λ b. b) (map f (range_with_len 0 n)) (f n ∷ [])
+      ∙ ap₂ ◌&&◌ (list_all-map (λ b. b) f (range_with_len 0 n) ∙ every_all n) (and-true (f n))
+
+  -- and of those from 1 on, where 0 passes
+  pub every_rest : (n m : ℕ) → f 0 ≡ true → 1 + n ≡ m → list_all f (range_with_len 1 n) ≡ every m f
+  every_rest n m e q = ap (λ (b : Bool). b && list_all f (range_with_len 1 n)) (sym e) ∙ every_all (suc n) ∙ ap (λ (k : ℕ). every k f) (omega arith)

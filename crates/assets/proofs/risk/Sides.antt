@@ -1,5 +1,5 @@
 -- Laws of the two sides of a position: the market risk of a side and the interest of a date, under a row in its ranges. Assumes nothing.
-use mathlib.Core.Path.{◌≡◌, refl, sym, ap, ap₂, ◌∙◌}
+use mathlib.Core.Path.{◌≡◌, refl, sym, ap, ap₂, ◌∙◌, subst}
 use mathlib.Core.Bool.{Bool, true, false, cond}
 use mathlib.Core.List.{List}
 use Prim.Native.Nat.{ℕ, zero, suc, ◌+◌, ◌*◌, ◌<◌, ◌^◌}
@@ -26,7 +26,7 @@ use Rattle.assets.specs.declared.record.Asset.{Asset}
 use Rattle.whole.proofs.Bounds.{within_fits, upto_within}
 use Rattle.whole.proofs.PlusMinus.{abs_is, one_is_zero}
 use Rattle.whole.proofs.InRange.{neg_size, product_upto, upto_size}
-use Rattle.assets.proofs.risk.Charge.{Slope, charge_slope, charge_turned, slope_upto, signed_mono, signed_step}
+use Rattle.assets.proofs.risk.Charge.{Slope, charge_slope, charge_turned, slope_upto, signed_mono, signed_step, charge_within}
 
 -- ---- the two sides of a number: one is its size, the other 0
 pub long_same : {x : ℤ} → pos 0 ≤ℤ x → long x ≡ x
@@ -238,3 +238,22 @@ module _ (row : List ℤ) (r : RowRanges row) (d : ℕ) (h : d < 8) where
       by false e =
           (λ i. charge (long_width 1 i) (long_width 3 i) (interest_limit row) (size_long {x = number positions d} (omega ints) i))
           ∙ sym (interest_long positions (omega ints))
+
+  side_below : (x : ℤ) → side_of x < 2
+  unfolding side_of
+  side_below x = by (lt_z x (pos 0))
+    where
+      by : (t : Bool) → cond t rise fall < 2
+      by true = omega arith
+      by false = omega arith
+
+  -- so it is at most ten million for each unit
+  pub interest_within : (positions : List ℤ) → number positions d within 8000000 → interest_of row positions d within 80000000000000
+  interest_within positions held =
+      let w = widths_within (side_of (number positions d)) (side_below (number positions d)) in
+      subst (λ (z : ℤ). z within 80000000000000) (interest_by_side positions)
+      (charge_within w.0 w.1 r.interest_upto.low (size_upto held (omega arith)) (omega arith))
+
+-- the long units of a position within k
+pub long_upto : {x : ℤ} {k : ℕ} → x within k → k < 2 ^ 63 → long x upto k
+long_upto {x} {k} h l = let m = is (lit 0 ⊔ var x) in record { low = omega ints; high = omega ints; fits = omega ints }

@@ -14,7 +14,7 @@ use Rattle.whole.proofs.Rules.{ints}
 use Rattle.rates.specs.Lent.{Tables}
 use Rattle.rates.specs.Ranges.{TableRanges}
 use Rattle.figures.specs.Limit.{discount_of}
-use Rattle.figures.specs.Ranges.{PercentRanges}
+use Rattle.figures.specs.Ranges.{GroupRanges, PercentRanges}
 use Rattle.whole.proofs.InRange.{product_upto}
 
 -- the percents of groups that pass the check
@@ -70,3 +70,12 @@ pub group_discount_step : (groups longs shorts longs' shorts' : List ℤ) (g : �
     → discount_of groups longs shorts g ≤ℤ (discount_of groups longs' shorts' g +ℤ k)
 unfolding discount_of
 group_discount_step groups longs shorts longs' shorts' g k r h z a b = discount_step _ _ _ k (r.each g h) (smaller_step _ _ _ _ k a b) z
+
+-- the discount of a group of sixteen assets: at most the smaller side
+smaller_upto : {x y : ℤ} {k : ℕ} → x upto k → y upto k → k < 2 ^ 63 → min_ℤ x y upto k
+smaller_upto {x} {y} {k} h l b = let m = is (var x ⊓ var y) in record { low = omega ints; high = omega ints; fits = omega ints }
+
+pub group_discount_upto : {groups longs shorts : List ℤ} → PercentRanges groups → GroupRanges 16 longs → GroupRanges 16 shorts → (g : ℕ) → g < 8
+    → discount_of groups longs shorts g upto 10240000000000000
+unfolding discount_of
+group_discount_upto p l s g h = discount_upto (p.each g h) (smaller_upto (l.each (1 + g) (omega arith)) (s.each (1 + g) (omega arith)) (omega arith)) (omega arith)

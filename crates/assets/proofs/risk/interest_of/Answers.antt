@@ -15,8 +15,7 @@ use Rattle.rates.specs.Row.{interest_limit}
 use Rattle.rates.specs.Ranges.{RowRanges}
 use Rattle.assets.specs.Risk.{side_of, charge}
 use Rattle.assets.specs.Ranges.{PositionRanges}
-use Rattle.assets.proofs.risk.Charge.{charge_within}
-use Rattle.assets.proofs.risk.Sides.{size_upto, width_of, widths_within, interest_by_side}
+use Rattle.assets.proofs.risk.Sides.{size_upto, width_of, widths_within, interest_by_side, interest_within}
 use Rattle.assets.proofs.risk.interest_of.Goals as goal
 
 -- what the function works out, from the row and the positions alone
@@ -32,11 +31,6 @@ module _ (row positions : List ℤ) (d : ℕ) (ranges : RowRanges row) (held : P
 
   abbrev charge_on : ℕ → ℤ
   charge_on side = charge (width_at 1 side) (width_at 3 side) (interest_limit row) (abs_ℤ position)
-
-  charge_on_within : {side : ℕ} → side < 2 → charge_on side within 80000000000000
-  charge_on_within {side} below =
-      let w = widths_within _ ranges d l side below in
-      charge_within w.0 w.1 ranges.interest_upto.low (size_upto position_within (omega arith)) (omega arith)
 
   -- the position's size, read back from its bits
   sized : {size : ℤ} → size ≡ abs_ℤ (back position) → (size ≡ abs_ℤ position) × (size upto 8000000)
@@ -91,7 +85,6 @@ returns c =
     let units = to_z-of_z c.size.ensures.1 ∙ (sized a.row.now a.positions a.d p.0 p.1 p.2 c.size.ensures.0).0 in
     let made : back c.charge_of.result ≡ charged c.side_of-side.result
     = to_z-of_z r.1.fits ∙ r.0
-    ∙ (λ i. charge ((to_z-of_z inner.1.fits ∙ inner.0) i) ((to_z-of_z outer.1.fits ∙ outer.0) i) (limit i) (units i)) in (
-      made ∙ ap charged side ∙ interest_by_side _ p.0 a.d p.2 a.positions,
-      subst (λ (z : ℤ). z within 80000000000000) (sym made) (charge_on_within a.row.now a.positions a.d p.0 p.1 p.2 c.side_of-side.ensures.1),
-    )
+    ∙ (λ i. charge ((to_z-of_z inner.1.fits ∙ inner.0) i) ((to_z-of_z outer.1.fits ∙ outer.0) i) (limit i) (units i)) in
+    let e = made ∙ ap charged side ∙ interest_by_side _ p.0 a.d p.2 a.positions in
+    (e, subst (λ (z : ℤ). z within 80000000000000) (sym e) (interest_within _ p.0 a.d p.2 a.positions held))

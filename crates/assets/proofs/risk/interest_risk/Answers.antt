@@ -1,40 +1,45 @@
 -- `risk::interest_risk` meets its contract: it sums the interest of eight dates, and takes the size of the sum. Assumes nothing.
-use mathlib.Core.Path.{ap, ◌∙◌}
+use mathlib.Core.Path.{◌≡◌, ap, ◌∙◌}
 use native.Mathlib.Omega.{arith}
-use mir.Syntax.{w64}
-use mir.Val.{to_z}
 use mir.Facts.{to_z-of_z}
+use borrow.Author.Rules.{rules}
 use Rattle.whole.specs.Numbers.{abs_ℤ}
-use Rattle.whole.proofs.PlusMinus.{abs_is}
+use Rattle.whole.specs.Bounds.{◌within◌}
+use Rattle.whole.specs.Sums.{Σ<}
+use Rattle.whole.proofs.Machine.{back}
 use Rattle.whole.proofs.Rules.{ints}
-use Rattle.assets.specs.Risk.{interest_risk}
-use Rattle.whole.proofs.Summing.{withins, ends, sums}
+use Rattle.whole.proofs.Summing.{withins}
+use Rattle.whole.proofs.SummingChains.{from_range, sum_fits, sum_made}
+use Rattle.assets.specs.Risk.{interest_of, interest_risk}
+use Rattle.assets.proofs.risk.Sides.{interest_within}
 use Rattle.assets.proofs.risk.interest_risk.Goals as goal
+use Rattle.assets.proofs.risk.interest_risk.Goals.{After-sum-sum}
+
+pub sum-sum-requires-clause-fits : goal.sum-sum-requires-clause-fits
+sum-sum-requires-clause-fits c =
+    let a = c.args in
+    let p = c.requires in
+    let map = c.map.ensures in
+    sum_fits withins {B = 80000000000000} {n = 8}
+    (from_range _ (interest_of a.row.now a.positions) map.source map.closure (λ x r q k. search rules)) (omega arith)
+    (λ d l. interest_within _ p.0 d l _ (p.1.each d l))
+
+-- the sum
+summed : (c : After-sum-sum) → let a = c.args in let sum = back c.sum-sum.result in
+    (sum ≡ Σ< 8 (interest_of a.row.now a.positions)) × (sum within 640000000000000)
+summed c =
+    let a = c.args in
+    let p = c.requires in
+    let map = c.map.ensures in
+    sum_made withins (from_range _ (interest_of a.row.now a.positions) map.source map.closure (λ x r q k. search rules)) (omega arith)
+    (λ d l. interest_within _ p.0 d l _ (p.1.each d l)) c.sum-sum.ensures.ran
+
+pub size-requires : goal.size-requires
+size-requires c = let h = (summed c).1.size in omega arith
 
 pub returns : goal.returns
 unfolding interest_risk
 returns c =
     let r = c.size.ensures in
-    let e = ends withins c.loop-d.invariant (omega arith) in
+    let e = summed c.before in
     (to_z-of_z r.1 ∙ r.0 ∙ ap abs_ℤ e.0, omega ints)
-
-pub loop-d-init : goal.loop-d-init
-loop-d-init c = search sums
-
-pub interest_of-sum-requires : goal.interest_of-sum-requires
-interest_of-sum-requires c = search sums
-
-pub overflow_add-sum : goal.overflow_add-sum
-overflow_add-sum c = search sums
-
-pub overflow_add-d : goal.overflow_add-d
-overflow_add-d c = search sums
-
-pub loop-d-smaller : goal.loop-d-smaller
-loop-d-smaller c = search sums
-
-pub loop-d-preserved : goal.loop-d-preserved
-loop-d-preserved c = search sums
-
-pub size-requires : goal.size-requires
-size-requires c = omega (ints, abs_is (to_z w64 c.loop-d.sum-bits))

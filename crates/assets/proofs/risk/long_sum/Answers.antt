@@ -1,56 +1,28 @@
 -- `risk::long_sum` meets its contract: it sums the long units of eight dates, at most eight million each. Assumes nothing.
-use mathlib.Core.Path.{◌≡◌, ap, ◌∙◌}
+use mathlib.Core.Path.{ap, ◌∙◌}
 use native.Mathlib.Omega.{arith}
-use lib.IntN.{pos}
-use mir.Facts.{to_z-of_z}
-use Rattle.whole.specs.Numbers.{max_ℤ}
-use Rattle.whole.specs.Bounds.{◌upto◌}
-use Rattle.whole.specs.Parts.{number}
-use Rattle.whole.proofs.Rules.{ints}
-use Rattle.whole.proofs.Summing.{uptos, ends, sums}
+use borrow.Author.Rules.{rules}
+use Rattle.std.proofs.lemmas.Iterator.{YieldsList-from_slice, YieldsList-from_map}
+use Rattle.std.specs.Slice.Iter.{iter_rest}
+use Rattle.whole.proofs.Summing.{uptos}
+use Rattle.whole.proofs.SummingChains.{from_map, sum_fits, sum_made}
 use Rattle.assets.specs.Risk.{long, long_sum}
+use Rattle.assets.proofs.risk.Sides.{long_upto}
 use Rattle.assets.proofs.risk.long_sum.Goals as goal
-use Rattle.assets.proofs.risk.long_sum.Goals.{After-greater-sum}
 
--- the number that is added
-next : (c : After-greater-sum) → (c.greater-sum.result ≡ long (number c.args.positions c.loop-d.d)) × (c.greater-sum.result upto 8000000)
-next c =
-    let h = c.requires.each c.loop-d.d (omega arith) in
-    let r = c.greater-sum.ensures in
-    (r.0 ∙ ap (max_ℤ (pos 0)) (to_z-of_z h.fits), omega ints)
-
-pub loop-d-init : goal.loop-d-init
-unfolding long_sum
-loop-d-init c = search sums
-
-pub offset_bounds-positions-d : goal.offset_bounds-positions-d
-unfolding long_sum
-offset_bounds-positions-d c = search sums
-
-pub bounds-positions-d : goal.bounds-positions-d
-unfolding long_sum
-bounds-positions-d c = search sums
-
-pub greater-sum-requires : goal.greater-sum-requires
-unfolding long_sum
-greater-sum-requires c = search sums
-
-pub overflow_add-sum : goal.overflow_add-sum
-unfolding long_sum
-overflow_add-sum c = search (sums, next c)
-
-pub overflow_add-d : goal.overflow_add-d
-unfolding long_sum
-overflow_add-d c = search sums
-
-pub loop-d-smaller : goal.loop-d-smaller
-unfolding long_sum
-loop-d-smaller c = search sums
-
-pub loop-d-preserved : goal.loop-d-preserved
-unfolding long_sum
-loop-d-preserved c = search (sums, next c)
+pub sum-requires-clause-fits : goal.sum-requires-clause-fits
+sum-requires-clause-fits c =
+    let p = c.requires in
+    let map = c.map.ensures in
+    let slice = YieldsList-from_slice c.args.positions (ap iter_rest map.source ∙ c.iter.ensures.rest) in
+    sum_fits uptos {B = 8000000} {n = 8} (from_map _ p.size long (YieldsList-from_map _ long slice map.closure (λ x r q k. search rules))) (omega arith)
+    (λ d l. long_upto (p.each d l) (omega arith))
 
 pub returns : goal.returns
 unfolding long_sum
-returns c = ends uptos c.loop-d.invariant (omega arith)
+returns c =
+    let p = c.requires in
+    let map = c.map.ensures in
+    let slice = YieldsList-from_slice c.args.positions (ap iter_rest map.source ∙ c.iter.ensures.rest) in
+    sum_made uptos {B = 8000000} {n = 8} (from_map _ p.size long (YieldsList-from_map _ long slice map.closure (λ x r q k. search rules))) (omega arith)
+    (λ d l. long_upto (p.each d l) (omega arith)) c.sum.ensures.ran

@@ -1,6 +1,7 @@
 -- `joint::member_part` meets its contract: the lookup gives the row in force, under which the members' records are added. Assumes nothing.
 use mathlib.Core.Path.{◌≡◌, sym, ap, ◌∙◌, subst}
 use mathlib.Core.List.{List}
+use Prim.Native.Nat.{ℕ}
 use lib.IntN.{ℤ}
 use borrow.Author.Rules.{rules}
 use Rattle.rates.specs.InForce.{in_force, lookup}
@@ -8,6 +9,7 @@ use Rattle.rates.specs.Ranges.{RowRanges}
 use Rattle.rates.proofs.Lookup.{in_force_lem}
 use Rattle.book.specs.Block.{block_of, holding_of}
 use Rattle.book.specs.Members.{over_members}
+use Rattle.book.specs.declared.members.Members.{Members}
 use Rattle.assets.specs.Joint.{joint_of}
 use Rattle.assets.specs.Part.{part_of}
 use Rattle.assets.specs.Ranges.{AssetRanges}
@@ -16,13 +18,13 @@ use Rattle.assets.proofs.Joint.{ranges_wider}
 use Rattle.figures.specs.Joint.{joint_part}
 use Rattle.figures.proofs.SeveralBlocks.{member_asset_range}
 use Rattle.figures.proofs.joint.member_part.Goals as goal
-use Rattle.figures.proofs.joint.member_part.Goals.{After-joint_asset-x, After-row_in_force-row, Start}
+use Rattle.figures.proofs.joint.member_part.Goals.{After-joint_asset-x, After-row_in_force-row}
 
 -- the row that the lookup hands back
-looked_up : (c : After-row_in_force-row) → let a = c.args in c.row_in_force-row.result.now ≡ in_force a.clearing.now a.own.now a.a
+looked_up : (c : After-row_in_force-row) → let a = c.args in c.row_in_force-row.result.now ≡ in_force a.tables.clearing.now a.tables.own.now a.a
 looked_up c =
     let t = c.requires.1 in
-    let found : c.row_in_force-row.result.now ≡ lookup c.args.clearing.now c.args.own.now c.args.a = search (rules, c.row_in_force-row.ensures) in
+    let found : c.row_in_force-row.result.now ≡ lookup c.args.tables.clearing.now c.args.tables.own.now c.args.a = search (rules, c.row_in_force-row.ensures) in
     found ∙ in_force_lem _ _ c.args.a t.clearing_long t.own_long c.requires.2
 
 row_ranges : (c : After-row_in_force-row) → RowRanges c.row_in_force-row.result.now
@@ -32,12 +34,12 @@ pub joint_asset-x-requires : goal.joint_asset-x-requires
 joint_asset-x-requires c = (c.requires.0, row_ranges c, c.requires.2)
 
 -- the record over the members, under a row
-abbrev over : Start → List ℤ → Asset
-over s row = let a = s.args in joint_of (over_members a.members) a.members.kind row (λ j. holding_of (block_of a.book.now j) a.a)
+abbrev over : List ℤ → Members → ℕ → List ℤ → Asset
+over book members a row = joint_of (over_members members) members.kind row (λ j. holding_of (block_of book j) a)
 
-joined : (c : After-joint_asset-x) → let s = c.before.before in let a = s.args in
-    c.joint_asset-x.result ≡ over s (in_force a.clearing.now a.own.now a.a)
-joined c = c.joint_asset-x.ensures ∙ ap (over c.before.before) (looked_up c.before)
+joined : (c : After-joint_asset-x) → let a = c.args in
+    c.joint_asset-x.result ≡ over a.book.now a.members a.a (in_force a.tables.clearing.now a.tables.own.now a.a)
+joined c = c.joint_asset-x.ensures ∙ ap (over c.args.book.now c.args.members c.args.a) (looked_up c.before)
 
 pub part_of-requires : goal.part_of-requires
 part_of-requires c =

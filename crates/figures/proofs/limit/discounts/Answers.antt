@@ -1,25 +1,24 @@
 -- `limit::discounts` meets its contract: it sums the discounts of eight groups. Assumes nothing.
 use native.Mathlib.Omega.{arith}
-use Rattle.whole.proofs.Summing.{uptos, ends, sums}
+use borrow.Author.Rules.{rules}
+use Rattle.whole.proofs.Summing.{uptos}
+use Rattle.whole.proofs.SummingChains.{from_range, sum_fits, sum_made}
+use Rattle.figures.specs.Limit.{discount_of}
+use Rattle.figures.proofs.limit.Discount.{group_discount_upto}
 use Rattle.figures.proofs.limit.discounts.Goals as goal
 
-pub loop-g-init : goal.loop-g-init
-loop-g-init c = search sums
-
-pub discount_of-sum-requires : goal.discount_of-sum-requires
-discount_of-sum-requires c = search sums
-
-pub overflow_add-sum : goal.overflow_add-sum
-overflow_add-sum c = search sums
-
-pub overflow_add-g : goal.overflow_add-g
-overflow_add-g c = search sums
-
-pub loop-g-smaller : goal.loop-g-smaller
-loop-g-smaller c = search sums
-
-pub loop-g-preserved : goal.loop-g-preserved
-loop-g-preserved c = search sums
+pub sum-requires-clause-fits : goal.sum-requires-clause-fits
+sum-requires-clause-fits c =
+    let a = c.args in
+    let p = c.requires in
+    let map = c.map.ensures in
+    sum_fits uptos {B = 10240000000000000} {n = 8} (from_range _ (discount_of a.groups.now a.longs a.shorts) map.source map.closure (λ x r q k. search rules)) (omega arith)
+    (λ g l. group_discount_upto p.0 p.1 p.2 g l)
 
 pub returns : goal.returns
-returns c = ends uptos c.loop-g.invariant (omega arith)
+returns c =
+    let a = c.args in
+    let p = c.requires in
+    let map = c.map.ensures in
+    sum_made uptos (from_range _ (discount_of a.groups.now a.longs a.shorts) map.source map.closure (λ x r q k. search rules)) (omega arith)
+    (λ g l. group_discount_upto p.0 p.1 p.2 g l) c.sum.ensures.ran

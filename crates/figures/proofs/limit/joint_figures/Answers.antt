@@ -23,4 +23,4 @@ returns c =
     let totals = c.totals_of-totals.ensures in
     let r = c.joint_rubles-rubles.ensures in
     let rubles = to_z-of_z r.1.fits ∙ r.0 in
-    c.figures_of.ensures ∙ (λ i. figures_of (totals i) c.args.groups.now (rubles i))
+    c.figures_of.ensures ∙ (λ i. figures_of (totals i) c.args.tables.groups.now (rubles i))

@@ -19,7 +19,7 @@ use Rattle.whole.proofs.Machine.{back, need!, runs}
 use Rattle.whole.proofs.Summing.{withins}
 use Rattle.whole.proofs.Every.{every_at}
 use Rattle.whole.proofs.Tests.{passed}
-use Rattle.rates.specs.Lent.{lent}
+use Rattle.rates.specs.Lent.{numbers_of}
 use Rattle.assets.specs.Ranges.{PartRanges}
 use Rattle.assets.specs.declared.parts.Part.{Part}
 use Rattle.book.specs.Changes.{added}
@@ -35,16 +35,14 @@ use Rattle.figures.proofs.sums.totals_of.Goals.{After-member_part-part, After-st
 
 -- the assets' parts, and their ranges
 abbrev parts : Start → ℕ → Part
-parts s =
-    let a = s.args in
-    member_part a.members a.book.now (lent a.clearing a.own a.groups)
+parts s = member_part s.args.members s.args.book.now (numbers_of s.args.tables)
 
 part_range : (s : Start) (a : ℕ) → a < 16 → PartRanges (parts s a)
 part_range s a l = member_part_range _ _ _ s.requires.0 s.requires.1 a l
 
 pub loop-a-init : goal.loop-a-init
 unfolding totals_of by_group Σ< tabulated
-loop-a-init c = (omega arith, refl)
+loop-a-init c = refl
 
 -- where no member holds the asset the sums are as they were, which is what its part adds
 pub loop-a-preserved-then-none_holds : goal.loop-a-preserved-then-none_holds
@@ -53,7 +51,7 @@ loop-a-preserved-then-none_holds c =
     let s = c.before.before.before.before in
     let empty = passed c.none_holds.ensures c.if-none_holds.true in
     let nothing = member_part_none _ _ _ s.requires.0 s.requires.1 l.a (omega arith) (λ k q. every_at _ _ k q empty) in
-    (omega arith, totals_turn (parts s) l.a _ _ (part_range s l.a (omega arith)) l.invariant.1 (sym (no_part _ _ nothing)))
+    totals_turn (parts s) l.a _ _ (part_range s l.a (omega arith)) l.invariant (sym (no_part _ _ nothing))
 
 -- ---- a number added to a sum, and to a number of a side
 abbrev Summed : ℤ → ℤ → Type 0
@@ -96,8 +94,8 @@ module _ (m : After-member_part-part) where
   sum_ranges : TotalRanges 15 so_far
   sum_ranges =
       let l = turn.loop-a in
-      let over = totals_range (parts start) (part_range start) l.a l.invariant.0 in
-      ranges_wider l.a 15 _ (subst (TotalRanges l.a) (sym l.invariant.1) over) (omega arith)
+      let over = totals_range (parts start) (part_range start) l.a (omega arith) in
+      ranges_wider l.a 15 _ (subst (TotalRanges l.a) (sym l.invariant) over) (omega arith)
 
   valuation_summed : Summed (to_z w64 turn.loop-a.valuation-bits) part.worth
   valuation_summed = summed (to_z w64 turn.loop-a.valuation-bits) part.worth sum_ranges.valuation_within part_ranges.worth_within (omega arith)
@@ -138,13 +136,13 @@ loop-a-preserved c =
     let long = ap (set l.long (part m).group) (long_raised m).1 in
     let short = ap (set l.short (part m).group) (short_raised m).1 in
     let with_this : _ ≡ with_part (so_far m) (part m) = λ i. sums (valuation i) (market i) (interest i) (long i) (short i) in
-    (omega arith, totals_turn (parts (start m)) l.a _ _ (part_range (start m) l.a (omega arith)) l.invariant.1 (with_this ∙ ap (with_part (so_far m)) m.member_part-part.ensures))
+    totals_turn (parts (start m)) l.a _ _ (part_range (start m) l.a (omega arith)) l.invariant (with_this ∙ ap (with_part (so_far m)) m.member_part-part.ensures)
 
 pub returns : goal.returns
 returns c =
     let l = c.loop-a in
     let e : l.a ≡ 16 = omega arith in
-    l.invariant.1 ∙ ap (totals_of (parts c.before.before)) e
+    l.invariant ∙ ap (totals_of (parts c.before.before)) e
 
 pub overflow_add-valuation : goal.overflow_add-valuation
 overflow_add-valuation c = (valuation_summed c.before.before.before).0
@@ -178,9 +176,3 @@ overflow_add-short c = (short_raised (at_short c)).0
 
 pub bounds-short-group-in-loop-a : goal.bounds-short-group-in-loop-a
 bounds-short-group-in-loop-a c = (part_ranges (at_short c)).group_below
-
-pub overflow_add-a-in-loop-a : goal.overflow_add-a-in-loop-a
-overflow_add-a-in-loop-a c = let below = asset_below (at_short c) in search rules
-
-pub loop-a-smaller : goal.loop-a-smaller
-loop-a-smaller c = let below = asset_below (at_short c) in search rules

@@ -1,9 +1,8 @@
 -- `sums::totals_of` meets its contract: before asset a the sums are those over the assets passed. Assumes nothing.
 use mathlib.Core.Path.{◌≡◌}
 use mathlib.Core.List.{List}
-use Prim.Native.Nat.{◌-◌, ◌≤◌}
 use lib.IntN.{ℤ}
-use Rattle.rates.specs.Lent.{Tables}
+use Rattle.rates.specs.Lent.{numbers_of}
 use Rattle.figures.specs.Limit.{totals_of}
 use Rattle.figures.specs.Joint.{member_part}
 use Rattle.figures.specs.declared.sums.Totals.{Totals}
@@ -15,8 +14,4 @@ sums valuation market interest long short = record { valuation = valuation; mark
 
 abbrev pub invariant-loop-a : goal.invariant-loop-a
 invariant-loop-a l =
-    let tables : Tables = record { clearing = l.clearing; own = l.own; groups = l.groups } in
-    (l.a ≤ 16) × (sums l.valuation l.market l.interest l.long l.short ≡ totals_of (member_part l.members l.book tables) l.a)
-
-abbrev pub decreases-loop-a : goal.decreases-loop-a
-decreases-loop-a l = 16 - l.a
+    sums l.valuation l.market l.interest l.long l.short ≡ totals_of (member_part l.members l.book (numbers_of l.tables)) l.a

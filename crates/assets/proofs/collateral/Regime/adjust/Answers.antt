@@ -7,11 +7,8 @@ use Rattle.whole.specs.Bounds.{◌upto◌}
 use Rattle.whole.proofs.Rules.{ints}
 use Rattle.assets.specs.Collateral.{counted}
 use Rattle.assets.specs.Ranges.{ShareRange}
-use Rattle.assets.proofs.collateral.adjust.Goals as goal
-use Rattle.assets.proofs.collateral.adjust.Goals.{In-Accepted, In-Partial}
-
-pub returns-in-Special : goal.returns-in-Special
-returns-in-Special c = (rw c.in-Special.is refl, omega ints)
+use Rattle.assets.proofs.collateral.Regime.adjust.Goals as goal
+use Rattle.assets.proofs.collateral.Regime.adjust.Goals.{In-Accepted, In-Partial}
 
 pub returns-in-NotRecorded : goal.returns-in-NotRecorded
 returns-in-NotRecorded c =
