@@ -85,7 +85,7 @@ pub(crate) fn figures_at(book: &[i64], tables: Tables<'_>, i: usize) -> Figures
     ensures { result ≡ figures_at (numbers_of tables.entry) i (state book.now) }
 {
     let members = settlement::members_of(book, i);
-    figures::joint_figures(book, members, tables.clearing, tables.own, tables.groups)
+    figures::joint_figures(book, members, tables)
 }
 
 // The Single Limit of an account that may be judged.
