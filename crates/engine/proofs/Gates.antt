@@ -28,6 +28,11 @@ use Rattle.engine.specs.Ranges.{Judgeable}
 pub at_place : {account : ℤ} {i : ℕ} → SFits w64 account → i ≡ place_of (back account) → i ≡ place_of account
 at_place f e = e ∙ ap place_of (to_z-of_z f)
 
+-- and so is the code
+pub of_account : {account : ℤ} {n : ℕ} (refusals : ℕ → List Refusal) → SFits w64 account → n ≡ first_code (refusals (place_of (back account)))
+    → n ≡ first_code (refusals (place_of account))
+of_account refusals f e = e ∙ ap (λ (z : ℤ). first_code (refusals (place_of z))) (to_z-of_z f)
+
 -- a book that has its length, and then the account
 pub book_passes : (i : ℕ) (s : State) {n : ℕ} → length s.book ≡ 4608 → n ≡ first_code (account_refusals i) → n ≡ first_code (book_gate i s)
 unfolding first_code

@@ -17,13 +17,8 @@ use whole::Refusal;
 fn can_be_moved(clearing: &[i64], asset: i64) -> bool
     ensures { result ≡ move_choice_right clearing.now asset }
 {
-    if book::is_rubles(asset) {
-        return true;
-    }
-    if !book::asset_right(asset) {
-        return false;
-    }
-    rates::is_listed(clearing, asset as usize)
+    book::is_rubles(asset)
+        || (book::asset_right(asset) && rates::is_listed(clearing, asset as usize))
 }
 
 // Codes 7 and 8.
