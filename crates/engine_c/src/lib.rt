@@ -55,13 +55,9 @@ pub extern "C" fn single_limit_check_tables(
 pub extern "C" fn single_limit_covers<'a>(clearing: &'a [i64], own: &'a [i64], asset: i64) -> u8
     ensures { result ≡ covered clearing.now own.now asset }
 {
-    if !book::asset_right(asset) {
-        return 0;
-    }
-    if !rates::covers(rates::row_in_force(clearing, own, asset as usize)) {
-        return 0;
-    }
-    1
+    let covers = book::asset_right(asset)
+        && rates::covers(rates::row_in_force(clearing, own, asset as usize));
+    u8::from(covers)
 }
 
 // Open an account, on a settlement code or on none.
