@@ -19,7 +19,7 @@ use rates::units::GROUP_COUNT;
 // The discount, and the five figures (document 01; clause 7 and Single Limit).
 
 // The five figures of a report.
-#[derive(Clone, Copy)]
+#[derive(Clone, Copy, Debug, PartialEq, Eq)]
 pub struct Figures {
     pub valuation: i64,
     pub market: i64,

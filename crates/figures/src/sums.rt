@@ -13,7 +13,7 @@ use rates::units::ASSET_COUNT;
 // The sums over the assets of the members.
 
 // Sums over assets: valuation, both risks, and market risk by side and group 0 to 8.
-#[derive(Drop)]
+#[derive(Debug, PartialEq, Eq, Drop)]
 pub struct Totals {
     pub valuation: i64,
     pub market: i64,
