@@ -23,6 +23,13 @@ asset_range : (s : Start) (k : ℕ) → k < s.args.members.count
     → AssetRanges 1 (of s.args.book.now s.args.members.kind s.args.row.now s.args.a (member_at s.args.members k))
 asset_range s k l = asset_ranges _ _ s.requires.1 _ (holding_range s k l)
 
+pub loop-k-preserved : goal.loop-k-preserved
+loop-k-preserved c =
+    let l = c.loop-k in
+    let xs = of c.args.book.now c.args.members.kind c.args.row.now c.args.a in
+    let made = c.asset_of-y.ensures.0 ∙ ap (asset_of c.args.members.kind c.args.row.now) c.holding_of-in-loop-k.ensures in
+    record_turn (member_at c.args.members) _ xs l.k l.x _ l.invariant (c.with_record-x.ensures ∙ ap (with_record l.x) made)
+
 pub asset_of-x-requires : goal.asset_of-x-requires
 asset_of-x-requires c = let s = c.before in (s.requires.1, subst HoldingRanges (sym c.holding_of.ensures) (holding_range s 0 s.requires.0.some))
 
@@ -32,7 +39,7 @@ loop-k-init c =
     let s = c.before.before in
     let made = c.asset_of-x.ensures.0 ∙ ap (asset_of s.args.members.kind s.args.row.now) c.holding_of.ensures in
     let xs = of s.args.book.now s.args.members.kind s.args.row.now s.args.a in
-    (s.requires.0.some, made ∙ record_first (member_at s.args.members) _ xs refl (asset_range s 0 s.requires.0.some).size)
+    made ∙ record_first (member_at s.args.members) _ xs refl (asset_range s 0 s.requires.0.some).size
 
 pub asset_of-y-requires : goal.asset_of-y-requires
 asset_of-y-requires c =
@@ -46,17 +53,11 @@ with_record-x-requires c =
     let xs = of s.args.book.now s.args.members.kind s.args.row.now s.args.a in
     let few = s.requires.0.few in
     let over-passed = record_ranges (member_at s.args.members) _ xs l.k (omega arith) (λ k q. asset_range s k (omega arith)) in
-    (ranges_wider l.k 3 l.x (subst (AssetRanges l.k) (sym l.invariant.1) over-passed) (omega arith), c.asset_of-y.ensures.1)
-
-pub loop-k-preserved : goal.loop-k-preserved
-loop-k-preserved c =
-    let l = c.loop-k in
-    let xs = of c.args.book.now c.args.members.kind c.args.row.now c.args.a in
-    let made = c.asset_of-y.ensures.0 ∙ ap (asset_of c.args.members.kind c.args.row.now) c.holding_of-in-loop-k.ensures in
-    (omega arith, record_turn (member_at c.args.members) _ xs l.k l.x _ l.invariant.1 (c.with_record-x.ensures ∙ ap (with_record l.x) made))
+    (ranges_wider l.k 3 l.x (subst (AssetRanges l.k) (sym l.invariant) over-passed) (omega arith), c.asset_of-y.ensures.1)
 
 pub returns : goal.returns
 returns c =
     let l = c.loop-k in
+    let some = c.requires.0.some in
     let e : l.k ≡ c.args.members.count = omega arith in
-    l.invariant.1 ∙ ap (over c.args.book.now c.args.members c.args.row.now c.args.a) e
+    l.invariant ∙ ap (over c.args.book.now c.args.members c.args.row.now c.args.a) e
