@@ -8,13 +8,14 @@ use Rattle.rates.specs.Units.{assets}
 use Rattle.rates.specs.Lent.{Tables}
 use Rattle.rates.specs.InForce.{in_force}
 use Rattle.book.specs.Block.{accounts, block_of, holding_of}
-use Rattle.book.specs.Members.{over_members}
+use Rattle.book.specs.Members.{member_at, over_members}
 use Rattle.book.specs.declared.members.Members.{Members}
 use Rattle.assets.specs.Joint.{joint_of}
 use Rattle.assets.specs.Part.{part_of}
 use Rattle.assets.specs.declared.parts.Part.{Part}
 use Rattle.figures.specs.Limit.{totals_of, figures_of, rubles_of}
 use Rattle.figures.specs.declared.limit.Figures.{Figures}
+use Rattle.figures.specs.declared.valued.Valued.{Valued}
 
 module _ (sum : (ℕ → ℤ) → ℤ) (account_kind : ℕ) (blocks : ℕ → List ℤ) (tables : Tables) where
   unfoldable pub joint_part : ℕ → Part
@@ -36,3 +37,7 @@ module _ (members : Members) (book : List ℤ) (tables : Tables) where
 
   abbrev pub member_figures : Figures
   member_figures = joint_figures (over_members members) members.kind (block_of book) tables
+
+-- member k's holding of asset a, in blocks that are valued together
+abbrev pub holding_in : Valued → ℕ → ℕ → List ℤ
+holding_in valued k a = holding_of (block_of valued.book.now (member_at valued.members k)) a

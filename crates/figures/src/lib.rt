@@ -3,6 +3,7 @@
 mod joint;
 mod limit;
 mod sums;
+mod valued;
 
 pub use limit::{Figures, joint_figures};
 pub use sums::Totals;

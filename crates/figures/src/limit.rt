@@ -12,6 +12,7 @@ ghost use Rattle.figures.specs.Ranges.{GroupRanges, PercentRanges, TotalRanges};
 
 use crate::sums;
 use crate::sums::Totals;
+use crate::valued::Valued;
 use book::{Members, in_block};
 use rates::Tables;
 use rates::units::GROUP_COUNT;
@@ -19,7 +20,7 @@ use rates::units::GROUP_COUNT;
 // The discount, and the five figures (document 01; clause 7 and Single Limit).
 
 // The five figures of a report.
-#[derive(Clone, Copy)]
+#[derive(Clone, Copy, Debug, PartialEq, Eq)]
 pub struct Figures {
     pub valuation: i64,
     pub market: i64,
@@ -58,11 +59,11 @@ fn rubles_of(block: &[i64]) -> i64
 }
 
 // The rubles of the members.
-fn joint_rubles(book: &[i64], members: Members) -> i64
-    requires { MemberRanges book.now members }
-    ensures { (result ≡ over_members members (λ j. rubles_of (block_of book.now j))) × (result within 3600000000000000) }
+fn joint_rubles(valued: Valued<'_>) -> i64
+    ensures value { result ≡ over_members valued.entry.members (λ j. rubles_of (block_of valued.entry.book.now j)) }
+    ensures size { result within 3600000000000000 }
 {
-    (0..members.count).map(|k| rubles_of(book::member_block(book, members, k))).sum()
+    (0..valued.members.count).map(|k| rubles_of(book::member_block(valued.book, valued.members, k))).sum()
 }
 
 // The five figures from the sums.
@@ -91,7 +92,8 @@ pub fn joint_figures(book: &[i64], members: Members, tables: Tables<'_>) -> Figu
     requires { MemberRanges book.now members × TableRanges (numbers_of tables) }
     ensures { result ≡ member_figures members book.now (numbers_of tables.entry) }
 {
-    let totals = sums::totals_of(book, members, tables);
-    let rubles = joint_rubles(book, members);
+    let valued = Valued { book, members };
+    let totals = sums::totals_of(valued, tables);
+    let rubles = joint_rubles(valued);
     figures_of(totals, tables.groups, rubles)
 }

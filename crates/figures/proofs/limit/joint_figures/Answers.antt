@@ -15,12 +15,12 @@ pub figures_of-requires : goal.figures_of-requires
 figures_of-requires c =
     let p = c.requires in
     let totals = totals_range _ (λ a l. member_part_range _ _ _ p.0 p.1 a l) 16 (omega arith) in
-    (subst (TotalRanges 16) (sym c.totals_of-totals.ensures) totals, percent_ranges p.1, let h = c.joint_rubles-rubles.ensures.1 in omega ints)
+    (subst (TotalRanges 16) (sym c.totals_of-totals.ensures) totals, percent_ranges p.1, let h = c.joint_rubles-rubles.ensures.size in omega ints)
 
 pub returns : goal.returns
 unfolding joint_figures
 returns c =
     let totals = c.totals_of-totals.ensures in
     let r = c.joint_rubles-rubles.ensures in
-    let rubles = to_z-of_z r.1.fits ∙ r.0 in
+    let rubles = to_z-of_z r.size.fits ∙ r.value in
     c.figures_of.ensures ∙ (λ i. figures_of (totals i) c.args.tables.groups.now (rubles i))

@@ -14,17 +14,17 @@ pub sum-requires-clause-fits : goal.sum-requires-clause-fits
 sum-requires-clause-fits c =
     let a = c.args in
     let map = c.map.ensures in
-    let few = c.requires.few in
-    sum_fits withins {B = 900000000000000} {n = a.members.count}
-    (from_range _ (λ k. rubles_of (block_of a.book.now (member_at a.members k))) map.source map.closure (λ x r q k. search rules)) (omega arith)
-    (λ k l. rubles_within _ (c.requires.block k l))
+    let few = a.valued.in_range.few in
+    sum_fits withins {B = 900000000000000} {n = a.valued.members.count}
+    (from_range _ (λ k. rubles_of (block_of a.valued.book.now (member_at a.valued.members k))) map.source map.closure (λ x r q k. search rules)) (omega arith)
+    (λ k l. rubles_within _ (a.valued.in_range.block k l))
 
 pub returns : goal.returns
 returns c =
     let a = c.args in
     let map = c.map.ensures in
-    let few = c.requires.few in
-    let all = sum_made withins {B = 900000000000000} {n = a.members.count}
-    (from_range _ (λ k. rubles_of (block_of a.book.now (member_at a.members k))) map.source map.closure (λ x r q k. search rules)) (omega arith)
-    (λ k l. rubles_within _ (c.requires.block k l)) c.sum.ensures.ran in
-    (all.0, wider 3600000000000000 all.1 (omega arith))
+    let few = a.valued.in_range.few in
+    let all = sum_made withins {B = 900000000000000} {n = a.valued.members.count}
+    (from_range _ (λ k. rubles_of (block_of a.valued.book.now (member_at a.valued.members k))) map.source map.closure (λ x r q k. search rules)) (omega arith)
+    (λ k l. rubles_within _ (a.valued.in_range.block k l)) c.sum.ensures.ran in
+    record { value = all.0; size = wider 3600000000000000 all.1 (omega arith) }

@@ -31,14 +31,14 @@ use Rattle.figures.proofs.sums.Steps.{no_part, totals_turn, totals_range, ranges
 use Rattle.figures.proofs.SeveralBlocks.{member_part_range, member_part_none}
 use Rattle.figures.proofs.sums.totals_of.Invariants.{sums}
 use Rattle.figures.proofs.sums.totals_of.Goals as goal
-use Rattle.figures.proofs.sums.totals_of.Goals.{After-member_part-part, After-struct_told-in-loop-a-1, After-struct_told-in-loop-a-2-1, After-struct_told-in-loop-a-3-1, After-struct_told-in-loop-a-4-1, At-loop-a, Start}
+use Rattle.figures.proofs.sums.totals_of.Goals.{After-part-part, After-struct_told-in-loop-a-1, After-struct_told-in-loop-a-2-1, After-struct_told-in-loop-a-3-1, After-struct_told-in-loop-a-4-1, At-loop-a, Start}
 
 -- the assets' parts, and their ranges
 abbrev parts : Start → ℕ → Part
-parts s = member_part s.args.members s.args.book.now (numbers_of s.args.tables)
+parts s = member_part s.args.valued.members s.args.valued.book.now (numbers_of s.args.tables)
 
 part_range : (s : Start) (a : ℕ) → a < 16 → PartRanges (parts s a)
-part_range s a l = member_part_range _ _ _ s.requires.0 s.requires.1 a l
+part_range s a l = member_part_range _ _ _ s.args.valued.in_range s.requires a l
 
 pub loop-a-init : goal.loop-a-init
 unfolding totals_of by_group Σ< tabulated
@@ -50,7 +50,7 @@ loop-a-preserved-then-none_holds c =
     let l = c.loop-a in
     let s = c.before.before.before.before in
     let empty = passed c.none_holds.ensures c.if-none_holds.true in
-    let nothing = member_part_none _ _ _ s.requires.0 s.requires.1 l.a (omega arith) (λ k q. every_at _ _ k q empty) in
+    let nothing = member_part_none _ _ _ s.args.valued.in_range s.requires l.a (omega arith) (λ k q. every_at _ _ k q empty) in
     totals_turn (parts s) l.a _ _ (part_range s l.a (omega arith)) l.invariant (sym (no_part _ _ nothing))
 
 -- ---- a number added to a sum, and to a number of a side
@@ -72,7 +72,7 @@ raised risks g x r l k =
     (need! e ok, runs e ok)
 
 -- ---- where an asset is held: its part is added
-module _ (m : After-member_part-part) where
+module _ (m : After-part-part) where
   abbrev start : Start
   start = m.before.before.before.before.before
 
@@ -80,7 +80,7 @@ module _ (m : After-member_part-part) where
   turn = m.before.before.before.before
 
   abbrev part : Part
-  part = m.member_part-part.result
+  part = m.part-part.result
 
   abbrev so_far : Totals
   so_far = let l = turn.loop-a in sums (to_z w64 l.valuation-bits) (to_z w64 l.market-bits) (to_z w64 l.interest-bits) l.long l.short
@@ -89,7 +89,7 @@ module _ (m : After-member_part-part) where
   asset_below = omega arith
 
   part_ranges : PartRanges part
-  part_ranges = subst PartRanges (sym m.member_part-part.ensures) (part_range start turn.loop-a.a asset_below)
+  part_ranges = subst PartRanges (sym m.part-part.ensures) (part_range start turn.loop-a.a asset_below)
 
   sum_ranges : TotalRanges 15 so_far
   sum_ranges =
@@ -113,16 +113,16 @@ module _ (m : After-member_part-part) where
   short_raised = raised turn.loop-a.short part.group part.short sum_ranges.short_range part_ranges.group_below part_ranges.short_upto
 
 -- where the part was made, seen from where its numbers are added
-abbrev at_market : After-struct_told-in-loop-a-1 → After-member_part-part
+abbrev at_market : After-struct_told-in-loop-a-1 → After-part-part
 at_market c = c.before.before.before.before.before
 
-abbrev at_interest : After-struct_told-in-loop-a-2-1 → After-member_part-part
+abbrev at_interest : After-struct_told-in-loop-a-2-1 → After-part-part
 at_interest c = c.before.before.before.before.before.before.before
 
-abbrev at_long : After-struct_told-in-loop-a-3-1 → After-member_part-part
+abbrev at_long : After-struct_told-in-loop-a-3-1 → After-part-part
 at_long c = c.before.before.before.before.before.before.before.before.before.before
 
-abbrev at_short : After-struct_told-in-loop-a-4-1 → After-member_part-part
+abbrev at_short : After-struct_told-in-loop-a-4-1 → After-part-part
 at_short c = c.before.before.before.before.before.before.before.before.before.before.before.before
 
 pub loop-a-preserved : goal.loop-a-preserved
@@ -136,7 +136,7 @@ loop-a-preserved c =
     let long = ap (set l.long (part m).group) (long_raised m).1 in
     let short = ap (set l.short (part m).group) (short_raised m).1 in
     let with_this : _ ≡ with_part (so_far m) (part m) = λ i. sums (valuation i) (market i) (interest i) (long i) (short i) in
-    totals_turn (parts (start m)) l.a _ _ (part_range (start m) l.a (omega arith)) l.invariant (with_this ∙ ap (with_part (so_far m)) m.member_part-part.ensures)
+    totals_turn (parts (start m)) l.a _ _ (part_range (start m) l.a (omega arith)) l.invariant (with_this ∙ ap (with_part (so_far m)) m.part-part.ensures)
 
 pub returns : goal.returns
 returns c =

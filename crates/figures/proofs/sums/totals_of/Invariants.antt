@@ -14,4 +14,4 @@ sums valuation market interest long short = record { valuation = valuation; mark
 
 abbrev pub invariant-loop-a : goal.invariant-loop-a
 invariant-loop-a l =
-    sums l.valuation l.market l.interest l.long l.short ≡ totals_of (member_part l.members l.book (numbers_of l.tables)) l.a
+    sums l.valuation l.market l.interest l.long l.short ≡ totals_of (member_part l.valued.members l.valued.book.now (numbers_of l.tables)) l.a
