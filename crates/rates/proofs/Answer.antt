@@ -15,7 +15,7 @@ use Rattle.whole.proofs.Refusals.{none_holds}
 use Rattle.rates.specs.Units.{assets, row_length, table_length}
 use Rattle.rates.specs.Lent.{Tables}
 use Rattle.rates.specs.Tables.{table_marks, stricter_at, stricter_marks, lengths_right, sound_tables, only_stricter, table_refusals, check_code, check_place, checked, PlaceIsFirst, LaxerIsFirst}
-use Rattle.rates.specs.declared.tables.Checked.{Checked}
+use Rattle.rates.specs.Tables.{Checked}
 use Rattle.rates.proofs.Counts.{table_count, stricter_at_count, stricter_count}
 
 module _ (tables : Tables) where

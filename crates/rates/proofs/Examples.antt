@@ -21,7 +21,7 @@ use Rattle.rates.specs.Stricter.{stricter_terms, stricter_rates, stricter_limits
 use Rattle.rates.specs.Lent.{Tables}
 use Rattle.rates.specs.Tables.{own_kind_right, own_row_marks, clearing_marks, own_marks, table_marks, stricter_own_row, stricter_at, lengths_right, sound_tables, only_stricter, check_code, check_place, checked}
 use Rattle.rates.specs.InForce.{outer_width, cover_test, sound_row}
-use Rattle.rates.specs.declared.tables.Checked.{Checked}
+use Rattle.rates.specs.Tables.{Checked}
 
 -- ---- rows
 abbrev row_with : ℕ → ℤ → List ℤ

@@ -3,6 +3,7 @@
 use Rattle.std.specs.Prelude.{◌≡◌, List, ℕ, ◌+◌, ◌*◌, ℤ}
 use Rattle.std.specs.Borrow.{Bor}
 use denote.Triple.Both.{Both}
+use Rattle.rates.specs.declared.tables.Tables.{Tables as Borrowed}
 
 -- the clearing table, the own table and the groups
 pub record Tables : Type 0 where
@@ -20,6 +21,10 @@ Lent = Both (Bor (List ℤ)) (Bor (List ℤ))
 
 abbrev pub given : Lent → Lent → Lent → Tables
 given clearing own groups = lent clearing.entry own.entry groups.entry
+
+-- the numbers of tables that are lent as one
+abbrev pub numbers_of : Borrowed → Tables
+numbers_of tables = lent tables.clearing tables.own tables.groups
 
 -- a part that is lent of a table stands in that table, from number k on, eight bytes a number
 pub record PartOf (table : Bor (List ℤ)) (k : ℕ) (part : Bor (List ℤ)) : Type 0 where

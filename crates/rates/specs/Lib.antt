@@ -9,3 +9,4 @@ pub mod Tables
 pub mod InForce
 pub mod Ranges
 pub mod RowA
+pub mod Faults

@@ -11,7 +11,6 @@ use Rattle.rates.specs.Row.{kind, unlisted}
 use Rattle.rates.specs.Rules.{row_marks}
 use Rattle.rates.specs.Stricter.{stricter_row, Stricter}
 use Rattle.rates.specs.Lent.{Tables}
-use Rattle.rates.specs.declared.tables.Checked.{Checked}
 
 -- the row of asset a
 abbrev pub row_of : List ℤ → ℕ → List ℤ
@@ -82,6 +81,11 @@ table_refusals tables =
     not (sound_tables tables) gives broken_number
     ∷ not (only_stricter tables) gives laxer_own_row
     ∷ []
+
+-- what the table check answers: its code, with code 2 the place of the first broken number, and with code 13 that of the first laxer one
+pub record Checked : Type 0 where
+  pub code : ℕ
+  pub place : ℕ
 
 -- the answer of the table check: its refusals in their order, and the place of the first broken number, or of the first laxer one
 unfoldable pub check_code : Tables → ℕ

@@ -1,22 +1,57 @@
 ghost use Rattle.std.specs.Prelude.{◌≡◌, true, length};
 ghost use Rattle.whole.specs.Marks.{first_false, place_from, all_true, pieces};
 ghost use Rattle.rates.specs.Units.{assets, row_length, table_length, group_count};
-ghost use Rattle.rates.specs.Lent.{given};
+ghost use Rattle.rates.specs.Lent.{given, numbers_of};
+ghost use Rattle.rates.specs.Faults.{refusal_of, fault_place, checked_as};
 ghost use Rattle.rates.specs.Tables.{own_kind_right, own_row_marks, clearing_marks, own_marks, table_marks, sound_own};
 ghost use Rattle.rates.specs.Tables.{stricter_own_row, stricter_at, lengths_right, checked};
 
 use crate::units::{GROUPS, OWN, PLACES};
 use crate::{in_row, row, stricter, units};
-use whole::codes;
+use whole::Refusal;
 
 // The table check: the clearing table row by row, then the own table, each own row beside its clearing row, then the groups. It ends at the first row or
 // percent that breaks a rule. Where none does, each own row that is present is compared with its clearing row, up to the first that is laxer.
 
-// What the table check answers: its code, with code 2 the place of the first broken number, and with code 13 that of the first laxer one.
+// What a call is lent to read: the clearing table, the own table and the groups, of any lengths and any numbers.
 #[derive(Clone, Copy)]
-pub struct Checked {
-    pub code: u8,
-    pub place: usize,
+pub struct Tables<'a> {
+    pub clearing: &'a [i64],
+    pub own: &'a [i64],
+    pub groups: &'a [i64],
+}
+
+// Why the table check turns tables away; a broken and a laxer number are told by their place.
+#[derive(Clone, Copy, Debug, PartialEq, Eq)]
+pub enum Fault {
+    WrongLength,
+    BrokenNumber(usize),
+    LaxerOwnRow(usize),
+}
+
+impl From<Fault> for Refusal {
+    ghost from_gives = { λ fault refusal. refusal ≡ refusal_of fault };
+
+    fn from(fault: Fault) -> Refusal {
+        match fault {
+            Fault::WrongLength => Refusal::WrongLength,
+            Fault::BrokenNumber(_) => Refusal::BrokenNumber,
+            Fault::LaxerOwnRow(_) => Refusal::LaxerOwnRow,
+        }
+    }
+}
+
+impl Fault {
+    // Where it is; 0 for a wrong length, which has no place.
+    pub fn place(self) -> usize
+        ensures { result ≡ fault_place self }
+    {
+        match self {
+            Fault::WrongLength => 0,
+            Fault::BrokenNumber(place) => place,
+            Fault::LaxerOwnRow(place) => place,
+        }
+    }
 }
 
 // Whether the clearing row is listed and the own row has its kind.
@@ -145,32 +180,23 @@ fn lengths_right(clearing: &[i64], own: &[i64], groups: &[i64]) -> bool
     groups.len() == units::GROUP_COUNT
 }
 
-// The table check: 1 for a wrong length, 2 with the place of the first broken number, 13 with that of the first laxer one, else 0.
-pub fn check_tables(clearing: &[i64], own: &[i64], groups: &[i64]) -> Checked
-    ensures { result ≡ checked (given clearing own groups) }
+// The table check: a wrong length, the place of the first broken number, or that of the first laxer one.
+pub fn check_tables(tables: Tables<'_>) -> Result<(), Fault>
+    ensures { checked_as result ≡ checked (numbers_of tables.entry) }
 {
+    let clearing = tables.clearing;
+    let own = tables.own;
+    let groups = tables.groups;
     if !lengths_right(clearing, own, groups) {
-        return Checked {
-            code: codes::WRONG_LENGTH,
-            place: 0,
-        };
+        return Err(Fault::WrongLength);
     }
     let broken = broken_place(clearing, own, groups);
     if broken < PLACES {
-        return Checked {
-            code: codes::BROKEN_NUMBER,
-            place: broken,
-        };
+        return Err(Fault::BrokenNumber(broken));
     }
     let laxer = laxer_own(clearing, own);
     if laxer < GROUPS {
-        return Checked {
-            code: codes::LAXER_OWN_ROW,
-            place: laxer,
-        };
+        return Err(Fault::LaxerOwnRow(laxer));
     }
-    Checked {
-        code: codes::DONE,
-        place: 0,
-    }
+    Ok(())
 }

@@ -6,3 +6,4 @@ pub mod Parts
 pub mod Laid
 pub mod Marks
 pub mod Refusals
+pub mod Codes

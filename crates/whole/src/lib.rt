@@ -10,6 +10,8 @@ ghost use Rattle.whole.specs.Bounds.{between};
 ghost use Rattle.whole.specs.Parts.{number};
 ghost use Rattle.whole.specs.Marks.{first_false, all_zero};
 
+pub use codes::{Refusal, code};
+
 // The arithmetic of i64 that the engine's code shares. Nothing here wraps: where an answer could leave the range, the caller
 // shows that it does not. A `requires` of this crate is met by its callers inside the engine.
 

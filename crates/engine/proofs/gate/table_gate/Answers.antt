@@ -5,7 +5,7 @@ use borrow.Author.Tests.{lt-ltb, le-ltb}
 use mathlib.Core.Bool.{not}
 use Rattle.whole.proofs.Refusals.{none, hit, miss}
 use Rattle.rates.specs.Tables.{check_code, checked}
-use Rattle.rates.specs.declared.tables.Checked.{Checked}
+use Rattle.rates.specs.Tables.{Checked}
 use Rattle.rates.specs.Lent.{lent}
 use Rattle.engine.specs.State.{state}
 use Rattle.whole.proofs.Parameters.{codes}

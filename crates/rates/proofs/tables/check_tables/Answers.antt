@@ -4,7 +4,7 @@
 use mathlib.Core.Path.{◌≡◌}
 use mathlib.Core.Bool.{true}
 use Rattle.whole.proofs.Tests.{left, taken}
-use Rattle.rates.specs.Lent.{lent}
+use Rattle.rates.specs.Lent.{numbers_of}
 use Rattle.rates.specs.Tables.{lengths_right}
 use Rattle.rates.proofs.Counts.{long_clearing, long_own, long_groups}
 use Rattle.rates.proofs.Answer.{answers_1, answers_2, answers_13, answers_0, sound}
@@ -15,7 +15,7 @@ use Rattle.rates.proofs.tables.check_tables.Goals.{Else-not-lengths_right}
 pub returns-then-not-lengths_right : goal.returns-then-not-lengths_right
 returns-then-not-lengths_right c = answers_1 _ (taken c.lengths_right.ensures c.if-not-lengths_right.true-raw)
 
-right : (c : Else-not-lengths_right) → let a = c.args in lengths_right (lent a.clearing a.own a.groups) ≡ true
+right : (c : Else-not-lengths_right) → lengths_right (numbers_of c.args.tables) ≡ true
 right c = left c.lengths_right.ensures c.if-not-lengths_right.false-raw
 
 pub returns-then-broken-lt-PLACES : goal.returns-then-broken-lt-PLACES
