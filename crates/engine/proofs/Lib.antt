@@ -1,4 +1,5 @@
 -- The laws that the proofs of the calls share, and what a reader wants to know of every call.
+pub mod Exits
 pub mod Allowed
 pub mod Gates
 pub mod Outcomes

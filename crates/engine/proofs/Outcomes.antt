@@ -5,11 +5,16 @@ use mathlib.Core.List.{List}
 use Prim.Native.Nat.{ℕ}
 use lib.Dec.{T}
 use lib.IntN.{ℤ}
+use Rattle.std.specs.Prelude.{Result}
+use Rattle.std.specs.Result.{IsErrAnd}
 use Rattle.whole.specs.Refusals.{Refusal, first_code, leaves}
+use Rattle.whole.specs.Codes.{refusal_code, answer_code}
+use Rattle.whole.specs.declared.codes.Refusal.{Refusal as Refused}
 use Rattle.whole.proofs.Refusals.{coded, kept, changed, stops, goes_on}
 use Rattle.book.specs.AtAccount.{at_account}
 use Rattle.engine.specs.State.{State, with_book, changed_at}
 use Rattle.engine.specs.Calls.{Call, Outcome, outcome_of, changing, ◌before◌}
+use Rattle.engine.proofs.Exits.{refusal_not_0, exit_code}
 
 module _ (first : State → List Refusal) (call : Call) (s : State) where
   -- the code is the list's, and nothing is changed; `b` is the book that was left
@@ -24,6 +29,11 @@ module _ (first : State → List Refusal) (call : Call) (s : State) where
   pub let_through : T (coded (first s)) → first_code (first s) ≡ 0 → outcome_of call s ≡ outcome_of (first before call) s
   unfolding outcome_of
   let_through c e = ap (λ (n : ℕ). record { code = n; state = leaves n (call.change s) s }) (sym (goes_on (first s) (call.refusals s) c e))
+
+  -- as a `?` answers it that passes on what the list gave
+  pub exit_away : (r : Result Unit Refused) (refusal : Refused) → IsErrAnd r (λ e. e ≡ refusal) → refusal_code refusal ≡ first_code (first s)
+      → ◌≡◌ {A = Outcome} (record { code = answer_code r; state = s }) (outcome_of (first before call) s)
+  exit_away r refusal h e = let k = exit_code r refusal h in turned_away (k ∙ e) (λ z. refusal_not_0 refusal (sym k ∙ z)) refl
 
 -- the change is made
 pub made : (first : State → List Refusal) (i : ℕ) (change : List ℤ → List ℤ) (s : State) → T (coded (first s)) → first_code (first s) ≡ 0

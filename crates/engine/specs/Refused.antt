@@ -27,32 +27,32 @@ unfoldable pub place_of : ℤ → ℕ
 place_of account = cond (between (pos 0) account (pos 15)) (nat_abs account) accounts
 
 -- ---- codes 1, 2, 13 and 3
+abbrev pub account_refusals : ℕ → List Refusal
+account_refusals i = not (ltb i accounts) gives no_account ∷ []
+
 -- of a call that is lent the book alone
 abbrev pub book_gate : ℕ → State → List Refusal
-book_gate i s =
-    not (eqb (length s.book) book_length) gives wrong_length
-    ∷ not (ltb i accounts) gives no_account
-    ∷ []
+book_gate i s = not (eqb (length s.book) book_length) gives wrong_length ∷ account_refusals i
 
 -- of a call that is lent tables and groups too
 abbrev pub table_gate : Tables → ℕ → State → List Refusal
 table_gate tables i s =
     not (eqb (length s.book) book_length && lengths_right tables) gives wrong_length
-    ∷ (table_refusals tables ++ (not (ltb i accounts) gives no_account ∷ []))
+    ∷ (table_refusals tables ++ account_refusals i)
 
--- ---- codes 6 and 4
-abbrev pub block_refusals : ℕ → State → List Refusal
-block_refusals i s =
-    not (code_right s.book i) gives broken_block
+-- ---- codes 6 and 4: whether the settlement code is right is asked by its blocks, and by their holdings where tables are lent
+abbrev pub open_refusals : Bool → ℕ → State → List Refusal
+open_refusals right i s =
+    not right gives broken_block
     ∷ is_zero (account_kind (block_at s i)) gives not_open
     ∷ []
+
+abbrev pub block_refusals : ℕ → State → List Refusal
+block_refusals i s = open_refusals (code_right s.book i) i s
 
 -- where tables are lent, a holding in an unlisted asset is 6 too, in any block of the code
 abbrev pub holding_refusals : List ℤ → ℕ → State → List Refusal
-holding_refusals clearing i s =
-    not (code_right s.book i && code_holds_listed s.book i clearing) gives broken_block
-    ∷ is_zero (account_kind (block_at s i)) gives not_open
-    ∷ []
+holding_refusals clearing i s = open_refusals (code_right s.book i && code_holds_listed s.book i clearing) i s
 
 -- a report's refusals, with which a move and an order begin too
 abbrev pub report_refusals : Tables → ℕ → State → List Refusal

@@ -10,7 +10,8 @@ mod rolling;
 pub use moving::{move_collateral, move_stands};
 pub use opening::open;
 pub use ordering::{order, order_stands};
-pub use reporting::{Reported, check_tables, report};
+pub use rates::{Fault, Tables, check_tables};
+pub use reporting::report;
 pub use rolling::roll;
 
 // The six calls of document 01, and every code of an order or a move before 10 for what stands above the engine. Each takes any account, table

@@ -1,13 +1,15 @@
-ghost use Rattle.std.specs.Prelude.{◌≡◌};
+ghost use Rattle.std.specs.Prelude.{◌≡◌, IfOk};
 ghost use Rattle.whole.specs.Refusals.{first_code};
-ghost use Rattle.rates.specs.Lent.{lent, given};
+ghost use Rattle.whole.specs.Codes.{answer_code};
+ghost use Rattle.rates.specs.Lent.{numbers_of};
 ghost use Rattle.engine.specs.State.{state, found};
 ghost use Rattle.engine.specs.Refused.{place_of, move_choice_right, move_checks, move_stands};
 ghost use Rattle.engine.specs.Ranges.{MoveStands};
 ghost use Rattle.engine.specs.Calls.{answer, outcome_of, judged_move, moving};
 
 use crate::gate;
-use whole::codes;
+use rates::Tables;
+use whole::Refusal;
 
 // The move of collateral: a deposit is never asked for the limit; a withdrawal is taken back where the limit without it is negative.
 
@@ -25,108 +27,84 @@ fn can_be_moved(clearing: &[i64], asset: i64) -> bool
 }
 
 // Codes 7 and 8.
-fn move_checks(clearing: &[i64], asset: i64, amount: i64) -> u8
-    ensures { result ≡ first_code (move_checks clearing.now asset amount) }
+fn move_checks(clearing: &[i64], asset: i64, amount: i64) -> Result<(), Refusal>
+    ensures { answer_code result ≡ first_code (move_checks clearing.now asset amount) }
 {
     if !can_be_moved(clearing, asset) {
-        return codes::WRONG_CHOICE;
+        return Err(Refusal::WrongChoice);
     }
     if !book::move_amount_right(asset, amount) {
-        return codes::WRONG_AMOUNT;
+        return Err(Refusal::WrongAmount);
     }
-    codes::DONE
+    Ok(())
 }
 
-// Every code of a move before 10, of an account's place.
-fn move_code(
+// Every code of a move before 10, or the account's place.
+fn move_gate(
     book: &[i64],
-    clearing: &[i64],
-    own: &[i64],
-    groups: &[i64],
-    i: usize,
+    tables: Tables<'_>,
+    account: i64,
     asset: i64,
     amount: i64,
-) -> u8
-    ensures { result ≡ first_code (move_stands (given clearing own groups) i asset amount (state book.now)) }
+) -> Result<usize, Refusal>
+    ensures code { answer_code result ≡ first_code (move_stands (numbers_of tables.entry) (place_of account) asset amount (state book.now)) }
+    ensures place { IfOk result (λ i. i ≡ place_of account) }
 {
-    let code = gate::report_code(book, clearing, own, groups, i);
-    if code != codes::DONE {
-        return code;
-    }
-    let wrong = move_checks(clearing, asset, amount);
-    if wrong != codes::DONE {
-        return wrong;
-    }
+    let i = gate::report_gate(book, tables, account)?;
+    move_checks(tables.clearing, asset, amount)?;
     if !book::move_fits(book::block_of(book, i), asset as usize, amount) {
-        return codes::OUT_OF_BOUNDS;
+        return Err(Refusal::OutOfBounds);
     }
-    codes::DONE
+    Ok(i)
 }
 
 // Every code of a move before 10: whether it may be judged. Nothing is changed.
 pub fn move_stands(
     book: &[i64],
-    clearing: &[i64],
-    own: &[i64],
-    groups: &[i64],
+    tables: Tables<'_>,
     account: i64,
     asset: i64,
     amount: i64,
-) -> u8
-    ensures { result ≡ first_code (move_stands (given clearing own groups) (place_of account) asset amount (state book.now)) }
+) -> Result<(), Refusal>
+    ensures { answer_code result ≡ first_code (move_stands (numbers_of tables.entry) (place_of account) asset amount (state book.now)) }
 {
-    move_code(
-        book,
-        clearing,
-        own,
-        groups,
-        gate::place(account),
-        asset,
-        amount,
-    )
+    move_gate(book, tables, account, asset, amount)?;
+    Ok(())
 }
 
 // Make a move that stands, or answer 10.
-fn judge_move<'a>(
+fn judge_move(
     book: &mut [i64],
-    clearing: &'a [i64],
-    own: &'a [i64],
-    groups: &[i64],
+    tables: Tables<'_>,
     i: usize,
     asset: usize,
     amount: i64,
-) -> u8
-    requires { MoveStands (lent clearing own groups) i (state book.old) asset amount }
-    ensures { answer result book ≡ outcome_of (judged_move (given clearing own groups) i asset amount) (found book) }
+) -> Result<(), Refusal>
+    requires { MoveStands (numbers_of tables) i (state book.old) asset amount }
+    ensures { answer (answer_code result) book ≡ outcome_of (judged_move (numbers_of tables.entry) i asset amount) (found book) }
 {
     book::move_in(book, i, asset, amount);
     if 0 <= amount {
-        return codes::DONE;
+        return Ok(());
     }
-    let limit = gate::limit_at(&book[..], clearing, own, groups, i);
+    let limit = gate::limit_at(&book[..], tables, i);
     if gate::is_enough(limit) {
-        return codes::DONE;
+        return Ok(());
     }
     book::move_in(book, i, asset, -amount);
-    codes::NEGATIVE_LIMIT
+    Err(Refusal::NegativeLimit)
 }
 
 // Move collateral of an asset, or of rubles (255): a positive amount deposits, a negative one withdraws.
-pub fn move_collateral<'a>(
+pub fn move_collateral(
     book: &mut [i64],
-    clearing: &'a [i64],
-    own: &'a [i64],
-    groups: &[i64],
+    tables: Tables<'_>,
     account: i64,
     asset: i64,
     amount: i64,
-) -> u8
-    ensures { answer result book ≡ outcome_of (moving (given clearing own groups) (place_of account) asset amount) (found book) }
+) -> Result<(), Refusal>
+    ensures { answer (answer_code result) book ≡ outcome_of (moving (numbers_of tables.entry) (place_of account) asset amount) (found book) }
 {
-    let i = gate::place(account);
-    let code = move_code(&book[..], clearing, own, groups, i, asset, amount);
-    if code != codes::DONE {
-        return code;
-    }
-    judge_move(book, clearing, own, groups, i, asset as usize, amount)
+    let i = move_gate(&book[..], tables, account, asset, amount)?;
+    judge_move(book, tables, i, asset as usize, amount)
 }

@@ -1,41 +1,34 @@
-ghost use Rattle.std.specs.Prelude.{◌≡◌};
+ghost use Rattle.std.specs.Prelude.{◌≡◌, IfOk};
 ghost use Rattle.whole.specs.Refusals.{first_code};
+ghost use Rattle.whole.specs.Codes.{answer_code};
 ghost use Rattle.engine.specs.State.{state, found};
 ghost use Rattle.engine.specs.Refused.{place_of, roll_refusals};
 ghost use Rattle.engine.specs.Calls.{answer, outcome_of, rolling};
 
 use crate::gate;
-use whole::codes;
+use whole::Refusal;
 
 // Roll, which is lent the book alone.
 
-// The code of a roll.
-fn roll_code(book: &[i64], i: usize) -> u8
-    ensures { result ≡ first_code (roll_refusals i (state book.now)) }
+// The codes of a roll, or the account's place.
+fn roll_gate(book: &[i64], account: i64) -> Result<usize, Refusal>
+    ensures code { answer_code result ≡ first_code (roll_refusals (place_of account) (state book.now)) }
+    ensures place { IfOk result (λ i. i ≡ place_of account) }
 {
-    let code = gate::book_gate(book, i);
-    if code != codes::DONE {
-        return code;
-    }
-    let wrong = gate::block_code(book, i);
-    if wrong != codes::DONE {
-        return wrong;
-    }
+    let i = gate::book_gate(book, account)?;
+    let right = settlement::code_right(book, i);
+    gate::block_stands(book, i, right)?;
     if !book::roll_fits(book::block_of(book, i)) {
-        return codes::OUT_OF_BOUNDS;
+        return Err(Refusal::OutOfBounds);
     }
-    codes::DONE
+    Ok(i)
 }
 
 // Roll an account to the next day.
-pub fn roll(book: &mut [i64], account: i64) -> u8
-    ensures { answer result book ≡ outcome_of (rolling (place_of account)) (found book) }
+pub fn roll(book: &mut [i64], account: i64) -> Result<(), Refusal>
+    ensures { answer (answer_code result) book ≡ outcome_of (rolling (place_of account)) (found book) }
 {
-    let i = gate::place(account);
-    let code = roll_code(&book[..], i);
-    if code != codes::DONE {
-        return code;
-    }
+    let i = roll_gate(&book[..], account)?;
     book::roll_in(book, i);
-    codes::DONE
+    Ok(())
 }

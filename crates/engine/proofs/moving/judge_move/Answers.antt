@@ -11,7 +11,7 @@ use Rattle.whole.proofs.Machine.{back}
 use Rattle.whole.proofs.Parameters.{negative}
 use Rattle.whole.proofs.Refusals.{none, hit, miss, code}
 use Rattle.whole.proofs.Tests.{both, first_out, second_out}
-use Rattle.rates.specs.Lent.{Tables, lent}
+use Rattle.rates.specs.Lent.{Tables, numbers_of}
 use Rattle.book.specs.Changes.{moved}
 use Rattle.book.specs.Ranges.{Movable}
 use Rattle.book.specs.AtAccount.{at_account}
@@ -27,7 +27,7 @@ use Rattle.engine.proofs.moving.judge_move.Goals.{After-is_enough, After-move_in
 
 -- what was lent, and the state with the move made
 abbrev tables : Start → Tables
-tables s = lent s.args.clearing s.args.own s.args.groups
+tables s = numbers_of s.args.tables
 
 abbrev after : Start → State
 after s = changed_at s.args.i (λ b. moved b s.args.asset s.args.amount) (state s.args.book.now)

@@ -1,39 +1,28 @@
 -- `opening::open` meets its contract: a code turns it away, or the opening is judged. Assumes nothing.
-use mathlib.Core.Path.{◌≡◌, refl, sym, ap, ◌∙◌}
+use mathlib.Core.Path.{◌≡◌, sym, ap, ◌∙◌}
 use Prim.Native.Nat.{ℕ}
 use mir.Facts.{to_z-of_z}
-use Rattle.whole.specs.Refusals.{first_code}
 use Rattle.engine.specs.State.{state}
 use Rattle.engine.specs.Refused.{place_of, open_stands}
-use Rattle.engine.specs.Calls.{Outcome, outcome_of, judged_opening, opening}
+use Rattle.engine.specs.Calls.{outcome_of, judged_opening, opening}
+use Rattle.engine.proofs.Gates.{at_place}
 use Rattle.engine.proofs.Passed.{open_passed}
-use Rattle.engine.proofs.Outcomes.{turned_away, let_through}
+use Rattle.engine.proofs.Outcomes.{exit_away, let_through}
 use Rattle.engine.proofs.opening.open.Goals as goal
-use Rattle.engine.proofs.opening.open.Goals.{After-place-i, Else-refusal-ne-DONE}
 
--- what is answered for the place is answered for the account
-placed : (c : After-place-i) {o : Outcome} → let a = c.args in
-    o ≡ outcome_of (opening c.place-i.result a.kind a.code) (state a.book.now)
-    → o ≡ outcome_of (opening (place_of a.account) a.kind a.code) (state a.book.now)
-placed c e = let a = c.args in
-    e ∙ ap (λ (i : ℕ). outcome_of (opening i a.kind a.code) (state a.book.now)) (c.place-i.ensures ∙ ap place_of (to_z-of_z c.ranges.account))
-
-code_0 : (c : Else-refusal-ne-DONE) → first_code (open_stands c.place-i.result (state c.args.book.now)) ≡ 0
-code_0 c = sym c.open_code-refusal.ensures ∙ c.if-refusal-ne-DONE.false
-
-pub returns-then-refusal-ne-DONE : goal.returns-then-refusal-ne-DONE
+pub returns-in_err-i : goal.returns-in_err-i
 unfolding opening
-returns-then-refusal-ne-DONE c = let a = c.args in let i = c.place-i.result in
-    placed c.before.before
-    (turned_away (open_stands i) (judged_opening i a.kind a.code) (state a.book.now) c.open_code-refusal.ensures c.if-refusal-ne-DONE.true refl)
+returns-in_err-i c = let a = c.args in let i = place_of a.account in
+    exit_away (open_stands i) (judged_opening i a.kind a.code) (state a.book.now) _ _ c.from_residual.ensures.1
+    (simp (to_z-of_z c.ranges.account) at c.in_err-i.ensures.code)
 
 pub judge_opening-requires : goal.judge_opening-requires
-judge_opening-requires c = open_passed _ (state c.args.book.now) (code_0 c.before)
+judge_opening-requires c = let a = c.args in let f = c.ranges.account in
+    rw (at_place f c.in_ok-i.ensures.place) (open_passed (place_of a.account) (state a.book.now) (sym (simp (to_z-of_z f) at c.in_ok-i.ensures.code)))
 
 pub returns : goal.returns
 unfolding opening
-returns c =
-    let a = c.args in
-    let i = c.place-i.result in
-    placed c.before.before.before.before.before ((simp (to_z-of_z c.ranges.kind, to_z-of_z c.ranges.code) at c.judge_opening.ensures)
-    ∙ let_through (open_stands i) (judged_opening i a.kind a.code) (state a.book.now) tt (code_0 c.before.before.before))
+returns c = let a = c.args in let f = c.ranges in let i = place_of a.account in
+    (simp (to_z-of_z f.kind, to_z-of_z f.code) at c.judge_opening.ensures)
+    ∙ ap (λ (k : ℕ). outcome_of (judged_opening k a.kind a.code) (state a.book.now)) (at_place f.account c.in_ok-i.ensures.place)
+    ∙ let_through (open_stands i) (judged_opening i a.kind a.code) (state a.book.now) tt (sym (simp (to_z-of_z f.account) at c.in_ok-i.ensures.code))

@@ -4,7 +4,7 @@ use mathlib.Core.Bool.{not}
 use native.Mathlib.Omega.{arith}
 use mir.Facts.{to_z-of_z}
 use Rattle.whole.proofs.Refusals.{none, hit, miss, code}
-use Rattle.rates.specs.Lent.{Tables, lent}
+use Rattle.rates.specs.Lent.{Tables, numbers_of}
 use Rattle.book.specs.Changes.{traded}
 use Rattle.engine.specs.State.{state}
 use Rattle.engine.specs.Refused.{limit_of, raised, not_raised}
@@ -14,7 +14,7 @@ use Rattle.engine.proofs.ordering.book_if_raised.Goals as goal
 use Rattle.engine.proofs.ordering.book_if_raised.Goals.{After-is_raised, Start}
 
 abbrev tables : Start → Tables
-tables s = lent s.args.clearing s.args.own s.args.groups
+tables s = numbers_of s.args.tables
 
 raises : (c : After-is_raised) → c.is_raised.result ≡ raised (limit_of (tables c.before.before) c.args.i (state c.args.book.now)) c.args.after
 raises c = let limit = c.limit_at-before.ensures in c.is_raised.ensures ∙ ap₂ raised (to_z-of_z limit.1 ∙ limit.0) (to_z-of_z c.ranges.after)

@@ -4,7 +4,7 @@ use mathlib.Core.Path.{◌≡◌, sym, ap, ap₂, ◌∙◌, subst}
 use mathlib.Core.List.{List}
 use lib.IntN.{ℤ}
 use mir.Facts.{to_z-of_z}
-use Rattle.rates.specs.Lent.{Tables, lent}
+use Rattle.rates.specs.Lent.{Tables, numbers_of}
 use Rattle.book.specs.Changes.{traded}
 use Rattle.book.specs.AtAccount.{at_account}
 use Rattle.book.specs.declared.changes.Trade.{Trade}
@@ -20,7 +20,7 @@ use Rattle.engine.proofs.ordering.judge_order.Goals.{After-is_enough, After-limi
 
 -- what was lent, and the state with the trade booked
 abbrev tables : Start → Tables
-tables s = lent s.args.clearing s.args.own s.args.groups
+tables s = numbers_of s.args.tables
 
 abbrev after : Start → State
 after s = changed_at s.args.i (λ b. traded b s.args.t) (state s.args.book.now)
