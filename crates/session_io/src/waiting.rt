@@ -28,11 +28,7 @@ fn said(errors: Stderr, what: &str, error: &Error) -> Failed {
 }
 
 // Reads some of standard input: how many bytes, none at the end of the input.
-pub(crate) fn read_some(
-    mut input: Stdin,
-    errors: Stderr,
-    buf: &mut [u8],
-) -> Result<usize, Failed>
+pub(crate) fn read_some(mut input: Stdin, errors: Stderr, buf: &mut [u8]) -> Result<usize, Failed>
     ensures { IfOk result (λ count. count ≤ length buf.new) }
 {
     for _ in 0..u64::MAX {

@@ -14,6 +14,7 @@ pub struct Line {
 
 impl Line {
     // The frame of the line, where it ends here.
+    #[tactic(auto, unfolding(crate::specs::Stream::held, crate::specs::Stream::frame_held))]
     pub(crate) fn frame(&self) -> Frame
         ensures { result ≡ frame_held (line_held self.now) }
     {
@@ -24,6 +25,7 @@ impl Line {
     }
 
     // One byte more of the line.
+    #[tactic(auto, using(crate::proofs::stream::Held::held_more, crate::proofs::stream::Held::held_full))]
     pub(crate) fn hold(&mut self, b: u8)
         ensures grown { line_held self.new ≡ grown (line_held self.old) b }
         ensures counted { self.new.count ≤ longest_line + 1 }
@@ -37,6 +39,7 @@ impl Line {
     }
 
     // Whether no byte of it is held.
+    #[tactic(auto, using(crate::proofs::stream::Held::blank_held))]
     pub(crate) fn is_blank(&self) -> bool
         ensures { result ≡ is_blank (line_held self.now) }
     {

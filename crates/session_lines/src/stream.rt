@@ -27,6 +27,7 @@ pub struct Spot {
 
 impl Session {
     // An empty book, all-zero tables, and no line that has begun.
+    #[tactic(auto, unfolding(crate::specs::Session::start, crate::specs::Stream::held))]
     pub fn new() -> Session
         ensures { stream_of result ≡ fresh }
     {
@@ -66,6 +67,7 @@ impl Session {
 
     // The end of the input: a line that has begun ends, though its newline lacks, and `used` is 1. Where none has begun, or `out` has no room for the
     // longest answer, nothing is done and `used` is 0.
+    #[tactic(auto, unfolding(crate::specs::Stream::ended))]
     pub fn end(&mut self, out: &mut [u8]) -> Spot
         ensures ended { fed_to result self.new out.new ≡ ended (empty (stream_of self.old) out.old) }
         ensures inside { result.at ≤ length out.new }
