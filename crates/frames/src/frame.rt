@@ -6,14 +6,14 @@ use crate::{hex, in_frame};
 
 // A line of a session as a frame.
 
-#[derive(Clone, Copy)]
+#[derive(Clone, Copy, Debug, PartialEq, Eq)]
 pub struct MoveNumbers {
     pub account: u8,
     pub asset: u8,
     pub amount: i64,
 }
 
-#[derive(Clone, Copy)]
+#[derive(Clone, Copy, Debug, PartialEq, Eq)]
 pub struct OrderNumbers {
     pub account: u8,
     pub asset: u8,
@@ -23,7 +23,7 @@ pub struct OrderNumbers {
     pub money: i64,
 }
 
-#[derive(Clone, Copy)]
+#[derive(Clone, Copy, Debug, PartialEq, Eq)]
 pub enum Frame {
     Parameter { place: usize, number: i64 },
     Open { account: u8, kind: u8, code: u8 },

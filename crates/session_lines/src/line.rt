@@ -6,7 +6,7 @@ use frames::Frame;
 
 // The line that has begun: its first bytes, and how many it has. Of a line that is too long the count is one above the longest line, and what `bytes`
 // holds is not said.
-#[derive(Clone, Copy)]
+#[derive(Clone, Copy, Debug, PartialEq, Eq)]
 pub struct Line {
     pub bytes: [u8; LONGEST_LINE],
     pub count: usize,

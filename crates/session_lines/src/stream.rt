@@ -11,7 +11,7 @@ use frames::NEWLINE;
 // The stream, in any pieces.
 
 // What memory holds between two bytes of it.
-#[derive(Drop)]
+#[derive(Debug, PartialEq, Eq, Drop)]
 pub struct Session {
     pub book: [i64; BOOK_LENGTH],
     pub parameters: [i64; PARAMETERS],
@@ -19,7 +19,7 @@ pub struct Session {
 }
 
 // What was taken of a piece, and the bytes written to `out`.
-#[derive(Clone, Copy)]
+#[derive(Clone, Copy, Debug, PartialEq, Eq)]
 pub struct Spot {
     pub used: usize,
     pub at: usize,
