@@ -27,6 +27,7 @@ fn digit(v: u8) -> u8
 }
 
 // A byte of the buffer.
+#[tactic(auto, using(whole::proofs::Laid::laid_one))]
 fn put(out: &mut [u8], at: usize, b: u8) -> usize
     requires { at + 1 ≤ length out.old }
     ensures { LaidIn out at 1 (b ∷ []) result }
@@ -71,6 +72,7 @@ fn put_line(out: &mut [u8], at: usize, code: u8, figures: &[i64]) -> usize
 }
 
 // An answer's line written at a place, and the place past it. Where there is no room for the whole line nothing is written.
+#[tactic(auto, using(crate::proofs::Digits::answer_length, crate::proofs::answer::Written::no_room))]
 pub fn put_answer(out: &mut [u8], at: usize, code: u8, figures: &[i64]) -> usize
     ensures { written_to out result ≡ written out.old at (answer_line code figures.now) }
 {

@@ -73,6 +73,7 @@ fn read_frame(bytes: &[u8]) -> Frame
 }
 
 // The frame of a line, given without its newline. No line longer than the longest frame's digits has a form.
+#[tactic(auto, unfolding(crate::specs::Frame::line_frame), using(crate::proofs::Shapes::long_line))]
 pub fn frame_of(line: &[u8]) -> Frame
     ensures { result ≡ line_frame line.now }
 {

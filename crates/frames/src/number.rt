@@ -7,6 +7,7 @@ ghost use Rattle.frames.specs.Number.{n8_at};
 pub(crate) const N8: usize = 8;
 
 // The number that an n8 writes.
+#[tactic(auto, unfolding(crate::specs::Number::n8_at), using(crate::proofs::Bytes::eight_read))]
 pub(crate) fn n8(bytes: &[u8]) -> i64
     requires { length bytes.now ≡ 8 }
     ensures { result ≡ n8_at bytes.now 0 }
