@@ -21,6 +21,15 @@ unfolding hex_of
 hex_length [] = refl
 hex_length (x ∷ xs) = let e = hex_length xs in omega arith
 
+-- one byte more
+pub bytes_next : (bytes : List ℕ) (k : ℕ) → k < length bytes
+    → let b = get_or bytes k 0 in hex_of (take k bytes) ++ (digit_of (b / 16) ∷ digit_of (b % 16) ∷ []) ≡ hex_of (take (k + 1) bytes)
+unfolding hex_of
+bytes_next bytes k h =
+    let b = get_or bytes k 0 in
+    let e : take (k + 1) bytes ≡ take k bytes ++ (b ∷ []) = rw (add-one k) (take-suc bytes k 0 h) in
+    sym (hex_append (take k bytes) (b ∷ [])) ∙ ap hex_of (sym e)
+
 figures_append : (xs ys : List ℤ) → figure_bytes (xs ++ ys) ≡ figure_bytes xs ++ figure_bytes ys
 unfolding figure_bytes
 figures_append [] ys = refl

@@ -1,18 +1,22 @@
 -- The statements of specs/Inverse proved. Assumes nothing.
-use mathlib.Core.Path.{◌≡◌, refl, ap, ap₂, ◌∙◌}
+use mathlib.Core.Path.{◌≡◌, refl, sym, ap, ap₂, ◌∙◌}
 use mathlib.Core.Bool.{Bool, true, false, cond, ◌&&◌}
 use mathlib.Core.List.{List, [], ◌∷◌, ◌++◌}
-use Prim.Native.Nat.{ℕ, ◌+◌, ◌-◌, ◌*◌, ◌/◌, ◌%◌, ◌<◌}
+use Prim.Native.Nat.{ℕ, zero, suc, ◌+◌, ◌-◌, ◌*◌, ◌/◌, ◌%◌, ◌<◌}
 use native.Mathlib.Omega.{arith}
 use borrow.Author.Tests.{lt-ltb, le-ltb, ltb-true, ltb-false}
 use lib.Dec.{ltb}
+use lib.ListN.{length, get_or}
 use mir.Syntax.{w64}
 use mir.Val.{to_z, of_z}
-use mir.Facts.{to_z-of_z, of_z-to_z}
+use mir.Facts.{to_z-of_z, of_z-to_z, Fits-of_z}
+use Rattle.std.specs.Int.{from_be_bytes}
+use Rattle.std.proofs.lemmas.Nat.{from_be_bytes-to_be_bytes_8, be_bytes_8}
 use Rattle.whole.proofs.Tests.{and_left, and_right, true_not_false}
 use Rattle.frames.specs.Hex.{digit_value, digit_of, is_hex, bytes_of, hex_of}
-use Rattle.frames.specs.Inverse.{none, more, HexRight, HexRead, HexWritten, N8Read, N8Written}
-use Rattle.frames.specs.Number.{two, four, eight, n8_at, two_bytes, four_bytes, eight_bytes, n8}
+use Rattle.frames.specs.Inverse.{Bytes, none, more, HexRight, HexRead, HexWritten, N8Read, N8Written}
+use Rattle.frames.specs.Number.{two, four, eight, n8_at, eight_bytes, n8}
+use Rattle.frames.proofs.Bytes.{eight_read, eight_written, n8_bytes}
 
 -- ---- one digit
 digit_read : (v : ℕ) → v < 16 → digit_value (digit_of v) ≡ v
@@ -66,41 +70,26 @@ hex_written (a ∷ b ∷ line) e =
     let l : (digit_value a * 16 + digit_value b) % 16 ≡ digit_value b = omega arith in
     rw (h, l, digit_written a high, digit_written b low) (ap (λ (t : List ℕ). a ∷ b ∷ t) (hex_written line (and_right (ltb (digit_value b) 16) (is_hex line) rest)))
 
--- ---- n8: a number's two halves, joined and parted
-joined : (q : ℕ) → (q / 256 * 256 + q % 256 ≡ q) × (q / 65536 * 65536 + q % 65536 ≡ q) × (q / 4294967296 * 4294967296 + q % 4294967296 ≡ q)
-joined q = (omega arith, omega arith, omega arith)
-
-eight_read : (u : ℕ) → eight (eight_bytes u) 0 ≡ u
-unfolding eight four two eight_bytes four_bytes two_bytes
-eight_read u =
-    let high = u / 4294967296 in let low = u % 4294967296 in
-    rw ((joined (high / 65536)).0, (joined (high % 65536)).0, (joined (low / 65536)).0, (joined (low % 65536)).0, (joined high).1, (joined low).1, (joined u).2) refl
-
+-- ---- n8: the library's laws of a number and its bytes
 pub n8_read : N8Read
-unfolding n8_at n8
-n8_read z s = ap (to_z w64) (eight_read (of_z w64 z)) ∙ to_z-of_z {w = w64} s
+unfolding n8_at
+n8_read z s =
+    let bytes = sym (eight_read (n8 z)) ∙ ap (from_be_bytes w64) (sym (n8_bytes z s)) in
+    ap (to_z w64) (bytes ∙ from_be_bytes-to_be_bytes_8 (of_z w64 z) (Fits-of_z {w = w64} s).fits) ∙ to_z-of_z {w = w64} s
 
-two_parted : (a b : ℕ) → a < 256 → b < 256 → (two_bytes (a * 256 + b) ≡ a ∷ b ∷ []) × (a * 256 + b < 65536)
-unfolding two_bytes
-two_parted a b h l =
-    let e : (a * 256 + b) / 256 ≡ a = omega arith in let f : (a * 256 + b) % 256 ≡ b = omega arith in (rw (e, f) refl, omega arith)
+byte_small : {bytes : List ℕ} → Bytes bytes → (i : ℕ) → get_or bytes i 0 < 256
+byte_small none i = omega arith
+byte_small (more h rest) zero = h
+byte_small (more h rest) (suc i) = byte_small rest i
 
-four_parted : (x y : ℕ) → x < 65536 → y < 65536 → (four_bytes (x * 65536 + y) ≡ two_bytes x ++ two_bytes y) × (x * 65536 + y < 4294967296)
-unfolding four_bytes
-four_parted x y h l =
-    let e : (x * 65536 + y) / 65536 ≡ x = omega arith in let f : (x * 65536 + y) % 65536 ≡ y = omega arith in (rw (e, f) refl, omega arith)
-
-eight_parted : (x y : ℕ) → x < 4294967296 → y < 4294967296 → (eight_bytes (x * 4294967296 + y) ≡ four_bytes x ++ four_bytes y) × (x * 4294967296 + y < 18446744073709551616)
-unfolding eight_bytes
-eight_parted x y h l =
-    let e : (x * 4294967296 + y) / 4294967296 ≡ x = omega arith in let f : (x * 4294967296 + y) % 4294967296 ≡ y = omega arith in
-    (rw (e, f) refl, omega arith)
+-- eight bytes write a number of 64 bits, and it writes them
+eight_back : (bytes : List ℕ) → length bytes ≡ 8 → Bytes bytes → n8 (n8_at bytes 0) ≡ bytes
+unfolding n8 n8_at eight four two
+eight_back bytes l b =
+    let u = eight bytes 0 in
+    let small = byte_small b in
+    let fit : u < 18446744073709551616 = omega (arith, small 0, small 1, small 2, small 3, small 4, small 5, small 6, small 7) in
+    ap eight_bytes (of_z-to_z {w = w64} (record { fits = fit })) ∙ sym (eight_written u fit) ∙ be_bytes_8 bytes u l small (sym (eight_read bytes))
 
 pub n8_written : N8Written
-unfolding n8 n8_at eight four two
-n8_written a b c d e f g h (more la (more lb (more lc (more ld (more le (more lf (more lg (more lh none)))))))) =
-    let p = two_parted a b la lb in let q = two_parted c d lc ld in let r = two_parted e f le lf in let s = two_parted g h lg lh in
-    let x = four_parted (a * 256 + b) (c * 256 + d) p.1 q.1 in
-    let y = four_parted (e * 256 + f) (g * 256 + h) r.1 s.1 in
-    let z = eight_parted ((a * 256 + b) * 65536 + (c * 256 + d)) ((e * 256 + f) * 65536 + (g * 256 + h)) x.1 y.1 in
-    ap eight_bytes (of_z-to_z {w = w64} (record { fits = z.1 })) ∙ z.0 ∙ rw (x.0, y.0, p.0, q.0, r.0, s.0) refl
+n8_written a b c d e f g h bytes = eight_back _ refl bytes

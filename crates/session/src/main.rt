@@ -12,9 +12,8 @@ fn main(rt: HostRuntime) -> ExitCode {
         output: rt.stdout(),
         errors: rt.stderr(),
     };
-    if session_io::run(streams) {
-        ExitCode::SUCCESS
-    } else {
-        ExitCode::FAILURE
+    match session_io::run(streams) {
+        Ok(()) => ExitCode::SUCCESS,
+        Err(_) => ExitCode::FAILURE,
     }
 }

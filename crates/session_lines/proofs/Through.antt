@@ -1,21 +1,14 @@
 -- What `feed` leaves of a piece, against the whole of it: the stream that it leaves, taken through the rest, is the stream taken through all.
 -- Assumes nothing.
-use mathlib.Core.Path.{◌≡◌, refl, sym, ap, ◌∙◌}
+use mathlib.Core.Path.{◌≡◌, refl, ap, ◌∙◌}
 use mathlib.Core.Bool.{Bool, true, false, cond}
 use mathlib.Core.List.{List, [], ◌∷◌}
-use Prim.Native.Nat.{ℕ, suc, ◌+◌, ◌-◌}
+use Prim.Native.Nat.{ℕ, suc, ◌+◌}
 use native.Mathlib.Omega.{arith}
 use lib.Dec.{eqb}
-use lib.IntN.{ℤ}
-use lib.ListN.{length, take, drop}
-use lib.Seq.{drop-drop, drop-length}
-use Rattle.whole.proofs.Parts.{to_end}
+use lib.ListN.{length, drop}
 use Rattle.session_lines.specs.Session.{newline}
-use Rattle.session_lines.specs.Stream.{held, Stream, Fed, taken, closed, has_room, fed, through}
-
--- the stream as memory holds it
-abbrev pub stream_in : List ℤ → List ℤ → List ℕ → ℕ → Stream
-stream_in book parameters line count = record { line = held line count; memory = record { state = record { book = book }; parameters = parameters } }
+use Rattle.session_lines.specs.Stream.{Stream, Fed, taken, closed, has_room, fed, through}
 
 -- `count` bytes of the piece were taken
 pub record Went (f : Fed) (piece : List ℕ) (r : Fed) : Type 0 where
@@ -34,20 +27,15 @@ went (b ∷ piece) f = by (eqb b newline) refl (has_room f.out) (went piece (clo
     by true n false p q = record { count = 0; used = omega arith; same = refl }
     by false n room p q = record { count = suc q.count; used = omega (arith, q.used); same = rw n q.same }
 
--- a call of `feed` on what a piece has from `from` on
-pub rest_through : (piece : List ℕ) (from : ℕ) (f r : Fed) → f.used ≡ 0 → r ≡ fed f (take (length piece - from) (drop from piece))
-    → through r.stream (drop (from + r.used) piece) ≡ through f.stream (drop from piece)
-rest_through piece from f r none e =
-    let rest = drop from piece in
-    let all : r ≡ fed f rest = e ∙ ap (fed f) (to_end from piece) in
-    let w = went rest f in
-    let used : r.used ≡ w.count = omega (arith, ap (λ (g : Fed). g.used) all, w.used, none) in
-    ap (through r.stream) (sym (drop-drop r.used from piece))
-    ∙ ap (λ (n : ℕ). through r.stream (drop n rest)) used
-    ∙ ap (λ (g : Fed). through g.stream (drop w.count rest)) all
-    ∙ w.same
+-- a call of `feed` on a piece, and what it leaves of it
+pub rest_through : (piece : List ℕ) (f r : Fed) → f.used ≡ 0 → r ≡ fed f piece → through r.stream (drop r.used piece) ≡ through f.stream piece
+rest_through piece f r none e =
+    let w = went piece f in
+    let used : r.used ≡ w.count = omega (arith, ap (λ (g : Fed). g.used) e, w.used, none) in
+    ap (λ (n : ℕ). through r.stream (drop n piece)) used ∙ ap (λ (g : Fed). through g.stream (drop w.count piece)) e ∙ w.same
 
 -- the end of the piece
-pub through_end : (s : Stream) (piece : List ℕ) (from : ℕ) → from ≡ length piece → through s (drop from piece) ≡ s
+pub through_end : (s : Stream) (piece : List ℕ) → length piece ≡ 0 → through s piece ≡ s
 unfolding through
-through_end s piece from e = ap (through s) (ap (λ (k : ℕ). drop k piece) e ∙ drop-length piece)
+through_end s [] e = refl
+through_end s (b ∷ piece) e = absurd (omega arith)

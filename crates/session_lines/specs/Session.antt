@@ -11,8 +11,7 @@ use Rattle.figures.specs.Limit.{five}
 use Rattle.engine.specs.State.{State, Changed, found, left}
 use Rattle.engine.specs.Refused.{place_of}
 use Rattle.engine.specs.Calls.{Call, outcome_of, opening, moving, ordering, rolling}
-use Rattle.engine.specs.Report.{report_of}
-use Rattle.engine.specs.declared.reporting.Reported.{Reported}
+use Rattle.engine.specs.Report.{Reported, report_of}
 use Rattle.frames.specs.Frame.{line_frame}
 use Rattle.frames.specs.Answer.{answer_line}
 use Rattle.frames.specs.declared.frame.MoveNumbers.{MoveNumbers}

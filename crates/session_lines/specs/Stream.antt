@@ -2,14 +2,14 @@
 -- bytes that a frame can have are kept; of a longer one, that it is too long.
 -- Assumes nothing.
 use Rattle.std.specs.Prelude.{◌≡◌, Bool, false, cond, List, [], ◌∷◌, ◌++◌, ℕ, ◌+◌, ◌≤◌, ◌<◌, eqb, leb, ltb, length, take}
-use Rattle.std.specs.Borrow.{MutBor}
-use denote.Triple.Both.{Both}
-use Rattle.engine.specs.State.{Changed}
+use Rattle.engine.specs.State.{state}
 use Rattle.frames.specs.Frame.{line_frame}
-use Rattle.frames.specs.Answer.{Written, written, written_to}
+use Rattle.frames.specs.Answer.{Written, written}
 use Rattle.frames.specs.declared.frame.Frame.{Frame}
 use Rattle.frames.specs.declared.frame.Frame.TheVariants.{Malformed}
-use Rattle.session_lines.specs.Session.{Memory, memory_found, memory_left, answered, newline}
+use Rattle.session_lines.specs.Session.{Memory, answered, newline}
+use Rattle.session_lines.specs.declared.line.Line.{Line}
+use Rattle.session_lines.specs.declared.stream.Session.{Session}
 use Rattle.session_lines.specs.declared.stream.Spot.{Spot}
 
 -- the digits of the longest frame, an order; the bytes of the longest answer, a report's
@@ -88,37 +88,27 @@ fed f (b ∷ piece) = cond (eqb b newline) (cond (has_room f.out) (fed (closed f
 unfoldable pub ended : Fed → Fed
 ended f = cond (is_blank f.stream.line) f (fed f (newline ∷ []))
 
--- ---- as an `ensures` names them: what a call found, with a buffer in which nothing is written, and what it left
-abbrev pub LentBytes : Type 0
-LentBytes = Both (MutBor (List ℕ)) (MutBor (List ℕ))
+-- ---- as a contract names them: the line and the stream that memory holds, a buffer in which nothing is written, and what a call left
+abbrev pub line_held : Line → Begun
+line_held line = held line.bytes line.count
+
+abbrev pub stream_of : Session → Stream
+stream_of s = record { line = line_held s.line; memory = record { state = state s.book; parameters = s.parameters } }
 
 abbrev pub empty : Stream → List ℕ → Fed
 empty s out = record { used = 0; stream = s; out = record { bytes = out; at = 0 } }
 
-abbrev pub stream_found : Changed → Changed → LentBytes → ℕ → Stream
-stream_found book parameters line count = record { line = held line.entry.now count; memory = memory_found book parameters }
+abbrev pub fed_to : Spot → Session → List ℕ → Fed
+fed_to r s out = record { used = r.used; stream = stream_of s; out = record { bytes = out; at = r.at } }
 
-abbrev pub stream_left : Changed → Changed → LentBytes → ℕ → Stream
-stream_left book parameters line count = record { line = held line.exit.now count; memory = memory_left book parameters }
-
-abbrev pub fed_found : Changed → Changed → LentBytes → ℕ → LentBytes → Fed
-fed_found book parameters line count out = empty (stream_found book parameters line count) out.entry.now
-
-abbrev pub fed_left : Spot → Changed → Changed → LentBytes → LentBytes → Fed
-fed_left r book parameters line out = record {
-  used = r.used;
-  stream = stream_left book parameters line r.count;
-  out = written_to out r.at;
-}
-
--- every byte of a piece, from a line of which `count` bytes were held to one of which `after` are
-abbrev pub WentThrough : Changed → Changed → LentBytes → ℕ → ℕ → List ℕ → Type 0
-WentThrough book parameters line count after piece = stream_left book parameters line after ≡ through (stream_found book parameters line count) piece
+-- every byte of a piece, from what a session held to what it holds
+abbrev pub WentThrough : Session → Session → List ℕ → Type 0
+WentThrough before after piece = stream_of after ≡ through (stream_of before) piece
 
 -- what follows for a caller: no more than the piece and the buffer; where the buffer has room for an answer, some of a piece that has any byte; and
 -- the count of a line that is too long is the longest line's and one
-pub record Took (count : ℕ) (r : Spot) (piece out : List ℕ) : Type 0 where
+pub record Took (before after : Session) (r : Spot) (piece out : List ℕ) : Type 0 where
   pub within : r.used ≤ length piece
   pub inside : r.at ≤ length out
   pub some : longest_answer ≤ length out → 0 < length piece → 0 < r.used
-  pub counted : count ≤ longest_line + 1 → r.count ≤ longest_line + 1
+  pub counted : before.line.count ≤ longest_line + 1 → after.line.count ≤ longest_line + 1

@@ -1,95 +1,116 @@
-ghost use Rattle.std.specs.Prelude.{◌≡◌, pos, length};
+ghost use Rattle.std.specs.Prelude.{◌≡◌, pos};
+ghost use Rattle.whole.specs.Codes.{answer_code};
+ghost use Rattle.rates.specs.Lent.{numbers_of};
 ghost use Rattle.engine.specs.State.{state, found};
 ghost use Rattle.engine.specs.Calls.{answer, outcome_of, opening, rolling};
-ghost use Rattle.engine.specs.Report.{report_of};
-ghost use Rattle.session_lines.specs.Session.{parameter_count, tables_of, place_code, parameter_set, account_at, line_move, terms_of, line_order};
+ghost use Rattle.engine.specs.Report.{report_of, reported_as};
+ghost use Rattle.session_lines.specs.Session.{tables_of, place_code, parameter_set, account_at, line_move, terms_of, line_order};
 
 use crate::sizes::{GROUPS, OWN, PARAMETERS};
 use book::Terms;
+use engine::Tables;
+use figures::Figures;
 use frames::{MoveNumbers, OrderNumbers};
-use whole::codes;
+use whole::Refusal;
 
 // The engine's calls with the numbers of a frame; the parameters are lent as both tables and groups.
 
+#[tactic(auto, unfolding(whole::specs::Parts::part))]
+fn tables_of(parameters: &[i64; PARAMETERS]) -> Tables<'_>
+    ensures { numbers_of result ≡ tables_of parameters.now }
+{
+    Tables {
+        clearing: &parameters[..OWN],
+        own: &parameters[OWN..GROUPS],
+        groups: &parameters[GROUPS..],
+    }
+}
+
 // 01: any number, with no table check.
-pub(crate) fn set_parameter(parameters: &mut [i64], place: usize, number: i64) -> u8
-    requires { length parameters.old ≡ parameter_count }
-    ensures { (result ≡ place_code place) × (parameters.new ≡ parameter_set parameters.old place number) }
+#[tactic(auto, unfolding(crate::specs::Session::place_code, crate::specs::Session::parameter_set, whole::specs::Refusals::leaves))]
+pub(crate) fn set_parameter(
+    parameters: &mut [i64; PARAMETERS],
+    place: usize,
+    number: i64,
+) -> Result<(), Refusal>
+    ensures { (answer_code result ≡ place_code place) × (parameters.new ≡ parameter_set parameters.old place number) }
 {
     if place < PARAMETERS {
         parameters[place] = number;
-        return codes::DONE;
+        return Ok(());
     }
-    codes::WRONG_CHOICE
+    Err(Refusal::WrongChoice)
 }
 
 // 02
-pub(crate) fn open(book: &mut [i64], account: u8, kind: u8, code: u8) -> u8
-    ensures { answer result book ≡ outcome_of (opening (account_at account) (pos kind) (pos code)) (found book) }
+pub(crate) fn open(book: &mut [i64], account: u8, kind: u8, code: u8) -> Result<(), Refusal>
+    ensures { answer (answer_code result) book ≡ outcome_of (opening (account_at account) (pos kind) (pos code)) (found book) }
 {
-    engine::open(book, account as i64, kind as i64, code as i64)
+    engine::open(book, i64::from(account), i64::from(kind), i64::from(code))
 }
 
 // 03
-pub(crate) fn move_collateral(book: &mut [i64], parameters: &[i64], line: MoveNumbers) -> u8
-    requires { length parameters.now ≡ parameter_count }
-    ensures { answer result book ≡ outcome_of (line_move parameters.now line) (found book) }
+#[tactic(auto, unfolding(crate::specs::Session::line_move))]
+pub(crate) fn move_collateral(
+    book: &mut [i64],
+    parameters: &[i64; PARAMETERS],
+    line: MoveNumbers,
+) -> Result<(), Refusal>
+    ensures { answer (answer_code result) book ≡ outcome_of (line_move parameters.now line) (found book) }
 {
     engine::move_collateral(
         book,
-        &parameters[0..OWN],
-        &parameters[OWN..GROUPS],
-        &parameters[GROUPS..PARAMETERS],
-        line.account as i64,
-        line.asset as i64,
+        tables_of(parameters),
+        i64::from(line.account),
+        i64::from(line.asset),
         line.amount,
     )
 }
 
-// 04
+// 04. No `From`: neither type is this crate's.
+#[tactic(auto, unfolding(crate::specs::Session::terms_of))]
 fn terms_of(line: OrderNumbers) -> Terms
     ensures { result ≡ terms_of line }
 {
     Terms {
-        asset: line.asset as i64,
-        date: line.date as i64,
-        side: line.side as i64,
+        asset: i64::from(line.asset),
+        date: i64::from(line.date),
+        side: i64::from(line.side),
         quantity: line.quantity,
         money: line.money,
     }
 }
 
-pub(crate) fn order(book: &mut [i64], parameters: &[i64], line: OrderNumbers) -> u8
-    requires { length parameters.now ≡ parameter_count }
-    ensures { answer result book ≡ outcome_of (line_order parameters.now line) (found book) }
+#[tactic(auto, unfolding(crate::specs::Session::line_order))]
+pub(crate) fn order(
+    book: &mut [i64],
+    parameters: &[i64; PARAMETERS],
+    line: OrderNumbers,
+) -> Result<(), Refusal>
+    ensures { answer (answer_code result) book ≡ outcome_of (line_order parameters.now line) (found book) }
 {
     engine::order(
         book,
-        &parameters[0..OWN],
-        &parameters[OWN..GROUPS],
-        &parameters[GROUPS..PARAMETERS],
-        line.account as i64,
+        tables_of(parameters),
+        i64::from(line.account),
         terms_of(line),
     )
 }
 
 // 05
-pub(crate) fn roll(book: &mut [i64], account: u8) -> u8
-    ensures { answer result book ≡ outcome_of (rolling (account_at account)) (found book) }
+pub(crate) fn roll(book: &mut [i64], account: u8) -> Result<(), Refusal>
+    ensures { answer (answer_code result) book ≡ outcome_of (rolling (account_at account)) (found book) }
 {
-    engine::roll(book, account as i64)
+    engine::roll(book, i64::from(account))
 }
 
 // 06
-pub(crate) fn report(book: &[i64], parameters: &[i64], account: u8) -> engine::Reported
-    requires { length parameters.now ≡ parameter_count }
-    ensures { result ≡ report_of (tables_of parameters.now) (account_at account) (state book.now) }
+pub(crate) fn report(
+    book: &[i64],
+    parameters: &[i64; PARAMETERS],
+    account: u8,
+) -> Result<Figures, Refusal>
+    ensures { reported_as result ≡ report_of (tables_of parameters.now) (account_at account) (state book.now) }
 {
-    engine::report(
-        book,
-        &parameters[0..OWN],
-        &parameters[OWN..GROUPS],
-        &parameters[GROUPS..PARAMETERS],
-        account as i64,
-    )
+    engine::report(book, tables_of(parameters), i64::from(account))
 }

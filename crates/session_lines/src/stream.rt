@@ -1,113 +1,81 @@
 ghost use Rattle.std.specs.Prelude.{◌≡◌, ◌+◌, ◌≤◌, length};
-ghost use Rattle.session_lines.specs.Stream.{longest_line, held, grown, frame_held, is_blank, fed_found, fed_left, fed, Took, ended};
+ghost use Rattle.session_lines.specs.Stream.{longest_line, stream_of, fed_to, empty, fed, Took, ended};
+ghost use Rattle.session_lines.specs.HoweverCut.{fresh};
 
 use crate::answer;
+use crate::line::Line;
 use crate::sizes::{LONGEST_ANSWER, LONGEST_LINE, PARAMETERS};
 use book::in_block::BOOK_LENGTH;
-use frames::{Frame, NEWLINE};
+use frames::NEWLINE;
 
-// The stream, in any pieces. Of the line that has begun its first bytes are held in `line`, and their count in `count`. Of a line that is too long
-// the count is one above the longest line, and what `line` holds is not said.
+// The stream, in any pieces.
 
-// The frame of the line that is held.
-fn frame_held(line: &[u8], count: usize) -> Frame
-    requires { length line.now ≡ longest_line }
-    ensures { result ≡ frame_held (held line.now count) }
-{
-    if count > LONGEST_LINE {
-        return Frame::Malformed;
-    }
-    frames::frame_of(&line[..count])
+// What memory holds between two bytes of it.
+#[derive(Debug, PartialEq, Eq, Drop)]
+pub struct Session {
+    pub book: [i64; BOOK_LENGTH],
+    pub parameters: [i64; PARAMETERS],
+    pub line: Line,
 }
 
-// One byte more of the line; its count.
-fn hold(line: &mut [u8], count: usize, b: u8) -> usize
-    requires { length line.old ≡ longest_line }
-    ensures grown { held line.new result ≡ grown (held line.old count) b }
-    ensures counted { result ≤ longest_line + 1 }
-{
-    if count < LONGEST_LINE {
-        line[count] = b;
-        return count + 1;
-    }
-    LONGEST_LINE + 1
-}
-
-// Whether no byte of it is held.
-fn is_blank(line: &[u8], count: usize) -> bool
-    requires { length line.now ≡ longest_line }
-    ensures { result ≡ is_blank (held line.now count) }
-{
-    count == 0
-}
-
-// What was taken of a piece, the bytes held of the line that has begun, and the bytes written to `out`.
-#[derive(Clone, Copy)]
+// What was taken of a piece, and the bytes written to `out`.
+#[derive(Clone, Copy, Debug, PartialEq, Eq)]
 pub struct Spot {
     pub used: usize,
-    pub count: usize,
     pub at: usize,
 }
 
-// Takes bytes of a piece until it ends, or a line ends whose answer may not fit in `out` any more.
-pub fn feed(
-    book: &mut [i64; BOOK_LENGTH],
-    parameters: &mut [i64; PARAMETERS],
-    line: &mut [u8; LONGEST_LINE],
-    count: usize,
-    piece: &[u8],
-    out: &mut [u8],
-) -> Spot
-    ensures fed { fed_left result book parameters line out ≡ fed (fed_found book parameters line count out) piece.now }
-    ensures took { Took count result piece.now out.new }
-{
-    let mut held = count;
-    let mut at = 0;
-    let mut i = 0;
-    while i < piece.len() {
-        if piece[i] != NEWLINE {
-            held = hold(line, held, piece[i]);
-            i += 1;
-            continue;
+impl Session {
+    // An empty book, all-zero tables, and no line that has begun.
+    #[tactic(auto, unfolding(crate::specs::Session::start, crate::specs::Stream::held))]
+    pub fn new() -> Session
+        ensures { stream_of result ≡ fresh }
+    {
+        Session {
+            book: [0; BOOK_LENGTH],
+            parameters: [0; PARAMETERS],
+            line: Line {
+                bytes: [0; LONGEST_LINE],
+                count: 0,
+            },
         }
-        if out.len() - at < LONGEST_ANSWER {
-            return Spot {
-                used: i,
-                count: held,
-                at: at,
-            };
-        }
-        at = answer::answer(book, parameters, frame_held(line, held), out, at);
-        held = 0;
-        i += 1;
     }
-    Spot {
-        used: i,
-        count: held,
-        at: at,
-    }
-}
 
-// The end of the input: a line that has begun ends, though its newline lacks, and `used` is 1. Where none has begun, or `out` has no room for the
-// longest answer, nothing is done and `used` is 0.
-pub fn end(
-    book: &mut [i64; BOOK_LENGTH],
-    parameters: &mut [i64; PARAMETERS],
-    line: &mut [u8; LONGEST_LINE],
-    count: usize,
-    out: &mut [u8],
-) -> Spot
-    ensures ended { fed_left result book parameters line out ≡ ended (fed_found book parameters line count out) }
-    ensures inside { result.at ≤ length out.new }
-    ensures counted { count ≤ longest_line + 1 → result.count ≤ longest_line + 1 }
-{
-    if is_blank(line, count) {
-        return Spot {
-            used: 0,
-            count: count,
-            at: 0,
-        };
+    // Takes bytes of a piece until it ends, or a line ends whose answer may not fit in `out` any more.
+    pub fn feed(&mut self, piece: &[u8], out: &mut [u8]) -> Spot
+        ensures fed { fed_to result self.new out.new ≡ fed (empty (stream_of self.old) out.old) piece.now }
+        ensures took { Took self.old self.new result piece.now out.new }
+    {
+        let mut at = 0;
+        for (used, b) in piece.iter().enumerate() {
+            if *b != NEWLINE {
+                self.line.hold(*b);
+                continue;
+            }
+            if out.len() - at < LONGEST_ANSWER {
+                return Spot { used, at };
+            }
+            let frame = self.line.frame();
+            at = answer::answer(&mut self.book, &mut self.parameters, frame, out, at);
+            self.line.count = 0;
+        }
+        Spot {
+            used: piece.len(),
+            at,
+        }
     }
-    let newline = [NEWLINE];
-    feed(book, parameters, line, count, &newline, out)
+
+    // The end of the input: a line that has begun ends, though its newline lacks, and `used` is 1. Where none has begun, or `out` has no room for the
+    // longest answer, nothing is done and `used` is 0.
+    #[tactic(auto, unfolding(crate::specs::Stream::ended))]
+    pub fn end(&mut self, out: &mut [u8]) -> Spot
+        ensures ended { fed_to result self.new out.new ≡ ended (empty (stream_of self.old) out.old) }
+        ensures inside { result.at ≤ length out.new }
+        ensures counted { self.old.line.count ≤ longest_line + 1 → self.new.line.count ≤ longest_line + 1 }
+    {
+        if self.line.is_blank() {
+            return Spot { used: 0, at: 0 };
+        }
+        self.feed(&[NEWLINE], out)
+    }
 }

@@ -6,4 +6,4 @@ use Rattle.frames.proofs.answer.put_line.Goals as goal
 
 pub returns : goal.returns
 returns c =
-    laid_same (answer_parts _ _) (laid_then (omega arith) (laid_then (omega arith) c.put_byte-past_code.ensures c.put_figures-past_figures.ensures) c.put.ensures)
+    laid_same (answer_parts _ _) (laid_then (omega arith) (laid_then (omega arith) c.put_bytes-past_code.ensures c.put_figures-past_figures.ensures) c.put.ensures)

@@ -1,52 +1,38 @@
--- `frame::read_frame` meets its contract: the tests are the definition's, in its order. Assumes nothing.
-use mathlib.Core.Path.{ap}
+-- `frame::read_frame` meets its contract: each pattern is a form of the definition's. Assumes nothing.
+use mathlib.Core.Path.{◌≡◌, ◌∙◌}
+use Prim.Native.Nat.{◌-◌}
+use native.Mathlib.Omega.{arith}
+use lib.ListN.{length}
+use mir.Syntax.{w64}
 use mir.Facts.{to_z-of_z}
-use Rattle.whole.proofs.Chains.{chain}
-use Rattle.frames.specs.Frame.{frame_of}
-use Rattle.frames.specs.declared.frame.Frame.TheVariants.{Move, Order}
-use Rattle.frames.proofs.Shapes.{shapes}
+use Rattle.frames.specs.Number.{byte}
+use Rattle.frames.specs.Frame.{move_numbers, order_numbers}
+use Rattle.frames.proofs.Bytes.{two_read, n8_first, n8_of_two, n8_after}
+use Rattle.frames.proofs.Shapes.{no_form, reads_parameter, reads_open, reads_move, reads_order, reads_roll, reads_report}
 use Rattle.frames.proofs.frame.read_frame.Goals as goal
+use Rattle.frames.proofs.frame.read_frame.Goals.{then-bytes-lt4+in-1-1, else-bytes-lt4+then-bytes-lt5+in-1-1, else-bytes-lt4+else-bytes-lt5+in-1-1, then-bytes-lt4+in-3-1, else-bytes-lt4+then-bytes-lt5+in-3-1, else-bytes-lt4+else-bytes-lt5+in-3-1}
 
-pub two_at-requires : goal.two_at-requires
-unfolding frame_of
-two_at-requires c = search shapes
+pub returns-in-4 : goal.returns-in-4
+unfolding order_numbers
+returns-in-4 c =
+    let bytes = c.args.bytes.now in
+    let quantity = c.n8.ensures ∙ n8_of_two bytes (length bytes - 5) 5 (omega arith) in
+    let money = c.n8-in-4.ensures ∙ n8_after bytes (length bytes - 5) 5 _ (omega arith) (omega arith) in
+    rw (to_z-of_z {w = w64} {z = c.n8.result} (record { sfits = c.n8.type_inv }), to_z-of_z {w = w64} {z = c.n8-in-4.result} (record { sfits = c.n8-in-4.type_inv }), quantity, money)
+    (reads_order bytes (omega arith) (omega arith))
 
-pub n8_at-requires : goal.n8_at-requires
-unfolding frame_of
-n8_at-requires c = search shapes
+pub returns-in-3 : goal.returns-in-3
+unfolding move_numbers
+returns-in-3 c =
+    let bytes = c.args.bytes.now in
+    let kind : byte bytes 0 ≡ 3 = grind arith in
+    let amount = c.n8-in-3.ensures ∙ n8_first bytes (length bytes - 3) 3 (omega arith) in
+    rw (to_z-of_z {w = w64} (record { sfits = c.n8-in-3.type_inv }), amount) (reads_move bytes (omega arith) kind)
 
-pub returns-then-is_shaped : goal.returns-then-is_shaped
-unfolding frame_of
-returns-then-is_shaped c = rw (to_z-of_z c.n8_at.ensures.1) (search chain depth 10)
-
-pub returns-then-is_shaped-2 : goal.returns-then-is_shaped-2
-unfolding frame_of
-returns-then-is_shaped-2 c = search chain depth 10
-
-pub move_numbers-requires : goal.move_numbers-requires
-unfolding frame_of
-move_numbers-requires c = search shapes
-
-pub returns-then-is_shaped-3 : goal.returns-then-is_shaped-3
-unfolding frame_of
-returns-then-is_shaped-3 c = search (chain, ap Move c.move_numbers.ensures) depth 10
-
-pub order_numbers-requires : goal.order_numbers-requires
-unfolding frame_of
-order_numbers-requires c = search (shapes, c.is_shaped-4.ensures, c.if-is_shaped-4.true)
-
-pub returns-then-is_shaped-4 : goal.returns-then-is_shaped-4
-unfolding frame_of
-returns-then-is_shaped-4 c = search (chain, ap Order c.order_numbers.ensures) depth 10
-
-pub returns-then-is_shaped-5 : goal.returns-then-is_shaped-5
-unfolding frame_of
-returns-then-is_shaped-5 c = search chain depth 10
-
-pub returns-then-is_shaped-6 : goal.returns-then-is_shaped-6
-unfolding frame_of
-returns-then-is_shaped-6 c = search chain depth 10
-
-pub returns : goal.returns
-unfolding frame_of
-returns c = search chain depth 10
+pub returns-in-1 : goal.returns-in-1
+returns-in-1 c =
+    let bytes = c.args.bytes.now in
+    let kind : byte bytes 0 ≡ 1 = grind arith in
+    let number = c.n8-in-1.ensures ∙ n8_first bytes (length bytes - 3) 3 (omega arith) in
+    let place = c.from.ensures ∙ c.from_be_bytes.ensures ∙ two_read bytes 1 in
+    rw (to_z-of_z {w = w64} (record { sfits = c.n8-in-1.type_inv }), number, place) (reads_parameter bytes (omega arith) kind)

@@ -1,2 +1,0 @@
--- What the proofs of signed numbers use: the sign of eight bytes.
-pub mod Sign

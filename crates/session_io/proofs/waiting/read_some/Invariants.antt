@@ -1,5 +1,0 @@
--- `waiting::read_some`: the turns that are left fall by one.
-use Rattle.session_io.proofs.waiting.read_some.Given as goal
-
-abbrev pub decreases-loop-turns : goal.decreases-loop-turns
-decreases-loop-turns l = l.turns
