@@ -9,7 +9,6 @@ pub mod Bounds
 pub mod Sums
 pub mod SumsOn
 pub mod Summing
-pub mod SummingChains
 pub mod Parts
 pub mod Laid
 pub mod Tests

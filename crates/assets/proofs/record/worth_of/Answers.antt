@@ -1,8 +1,7 @@
 -- `record::worth_of` meets its contract: it sums the worth of eight dates, thirty million million each at most. Assumes nothing.
 use native.Mathlib.Omega.{arith}
 use borrow.Author.Rules.{rules}
-use Rattle.whole.proofs.Summing.{withins}
-use Rattle.whole.proofs.SummingChains.{from_range, sum_fits, sum_made}
+use Rattle.whole.proofs.Summing.{withins, from_range, sum_fits, sum_made}
 use Rattle.assets.specs.Asset.{worth_of}
 use Rattle.assets.proofs.record.Positions.{worth_within}
 use Rattle.assets.proofs.record.worth_of.Goals as goal

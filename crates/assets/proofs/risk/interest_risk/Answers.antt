@@ -8,8 +8,7 @@ use Rattle.whole.specs.Bounds.{◌within◌}
 use Rattle.whole.specs.Sums.{Σ<}
 use Rattle.whole.proofs.Machine.{back}
 use Rattle.whole.proofs.Rules.{ints}
-use Rattle.whole.proofs.Summing.{withins}
-use Rattle.whole.proofs.SummingChains.{from_range, sum_fits, sum_made}
+use Rattle.whole.proofs.Summing.{withins, from_range, sum_fits, sum_made}
 use Rattle.assets.specs.Risk.{interest_of, interest_risk}
 use Rattle.assets.proofs.risk.Sides.{interest_within}
 use Rattle.assets.proofs.risk.interest_risk.Goals as goal

@@ -4,8 +4,7 @@ use native.Mathlib.Omega.{arith}
 use borrow.Author.Rules.{rules}
 use Rattle.std.proofs.lemmas.Iterator.{YieldsList-from_slice, YieldsList-from_map}
 use Rattle.std.specs.Slice.Iter.{iter_rest}
-use Rattle.whole.proofs.Summing.{uptos}
-use Rattle.whole.proofs.SummingChains.{from_map, sum_fits, sum_made}
+use Rattle.whole.proofs.Summing.{uptos, from_map, sum_fits, sum_made}
 use Rattle.assets.specs.Risk.{long, long_sum}
 use Rattle.assets.proofs.risk.Sides.{long_upto}
 use Rattle.assets.proofs.risk.long_sum.Goals as goal

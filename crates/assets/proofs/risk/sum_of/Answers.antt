@@ -1,7 +1,6 @@
 -- `risk::sum_of` meets its contract: it sums over eight dates, at most eight million each. Assumes nothing.
 use native.Mathlib.Omega.{arith}
-use Rattle.whole.proofs.Summing.{withins}
-use Rattle.whole.proofs.SummingChains.{from_list, sum_fits, sum_made}
+use Rattle.whole.proofs.Summing.{withins, from_list, sum_fits, sum_made}
 use Rattle.assets.specs.Risk.{position_sum}
 use Rattle.assets.proofs.risk.sum_of.Goals as goal
 

@@ -1,8 +1,7 @@
 -- `limit::discounts` meets its contract: it sums the discounts of eight groups. Assumes nothing.
 use native.Mathlib.Omega.{arith}
 use borrow.Author.Rules.{rules}
-use Rattle.whole.proofs.Summing.{uptos}
-use Rattle.whole.proofs.SummingChains.{from_range, sum_fits, sum_made}
+use Rattle.whole.proofs.Summing.{uptos, from_range, sum_fits, sum_made}
 use Rattle.figures.specs.Limit.{discount_of}
 use Rattle.figures.proofs.limit.Discount.{group_discount_upto}
 use Rattle.figures.proofs.limit.discounts.Goals as goal

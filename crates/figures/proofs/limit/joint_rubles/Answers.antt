@@ -2,8 +2,7 @@
 use native.Mathlib.Omega.{arith}
 use borrow.Author.Rules.{rules}
 use Rattle.whole.proofs.Bounds.{wider}
-use Rattle.whole.proofs.Summing.{withins}
-use Rattle.whole.proofs.SummingChains.{from_range, sum_fits, sum_made}
+use Rattle.whole.proofs.Summing.{withins, from_range, sum_fits, sum_made}
 use Rattle.book.specs.Block.{block_of}
 use Rattle.book.specs.Members.{member_at}
 use Rattle.figures.specs.Limit.{rubles_of}

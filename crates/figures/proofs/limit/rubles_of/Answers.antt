@@ -1,8 +1,7 @@
 -- `limit::rubles_of` meets its contract: it sums the nine ruble numbers, which stand from place 1 on. Assumes nothing.
 use native.Mathlib.Omega.{arith}
 use Rattle.whole.specs.Parts.{part}
-use Rattle.whole.proofs.Summing.{withins}
-use Rattle.whole.proofs.SummingChains.{from_list, sum_fits, sum_made}
+use Rattle.whole.proofs.Summing.{withins, from_list, sum_fits, sum_made}
 use Rattle.book.specs.Block.{ruble_numbers}
 use Rattle.figures.specs.Limit.{rubles_of}
 use Rattle.figures.proofs.limit.rubles_of.Goals as goal

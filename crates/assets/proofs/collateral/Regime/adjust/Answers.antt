@@ -1,5 +1,5 @@
 -- `collateral::adjust` meets its contract, regime by regime. Assumes nothing.
-use mathlib.Core.Path.{◌≡◌, refl, ap, ◌∙◌, subst}
+use mathlib.Core.Path.{◌≡◌, ap, ◌∙◌, subst}
 use lib.IntN.{pos}
 use mir.Facts.{to_z-of_z}
 use Rattle.whole.specs.Numbers.{min_ℤ}

@@ -1,5 +1,5 @@
 -- `collateral::value` meets its contract, regime by regime. Assumes nothing.
-use mathlib.Core.Path.{◌≡◌, refl}
+use mathlib.Core.Path.{◌≡◌}
 use lib.IntN.{pos}
 use mir.Facts.{to_z-of_z}
 use Rattle.whole.specs.Numbers.{min_ℤ}
