@@ -1,11 +1,12 @@
 #![tactic(auto)]
 
-ghost use Rattle.std.specs.Prelude.{◌≡◌, ◌&&◌, ◌<◌};
+ghost use Rattle.std.specs.Prelude.{◌≡◌, Bool, ◌&&◌, ℕ, ◌<◌};
 ghost use Rattle.whole.specs.Bounds.{equal, is_zero};
 ghost use Rattle.book.specs.Block.{block_of, account_kind, settlement_code};
 ghost use Rattle.book.specs.Rules.{holds_listed};
 ghost use Rattle.book.specs.AtAccount.{InBook};
-ghost use Rattle.settlement.specs.Code.{on_code, where_on, member_right, code_right, code_holds_listed};
+ghost use Rattle.book.specs.Asked.{Tells};
+ghost use Rattle.settlement.specs.Code.{on_code, passing, member_right, code_right, code_holds_listed};
 ghost use Rattle.settlement.specs.Members.{members_of, CodeRanges};
 
 use book::{Members, in_block};
@@ -53,36 +54,30 @@ fn same_kind(book: &[i64], i: usize, j: usize) -> bool
     whole::number_is(block, in_block::ACCOUNT_KIND, own[in_block::ACCOUNT_KIND])
 }
 
+// How many blocks are on account i's code, where each of them passes: none is asked behind the first that does not.
+fn members_passing<F: Fn(usize) -> bool>(book: &[i64], i: usize, passes: F) -> Option<usize>
+    requires there { InBook book.now i }
+    requires callable { (j : ℕ) → j < 16 → F.pre passes j }
+    ensures { (test : ℕ → Bool) → Tells F.Fn passes 16 test → result ≡ passing (on_code book.now i) test }
+{
+    let mut count: usize = 0;
+    for j in 0..in_block::ACCOUNTS {
+        if on_code(book, i, j) {
+            if !passes(j) {
+                return None;
+            }
+            count += 1;
+        }
+    }
+    Some(count)
+}
+
 // Whether block j keeps the block rules and has account i's kind.
 fn member_right(book: &[i64], i: usize, j: usize) -> bool
     requires { InBook book.now i × (j < 16) }
     ensures { result ≡ member_right book.now i j }
 {
-    if !book::block_right(book::block_of(book, j)) {
-        return false;
-    }
-    same_kind(book, i, j)
-}
-
-// Whether every block on account i's code is right, and there are at most four.
-fn members_right(book: &[i64], i: usize) -> bool
-    requires { InBook book.now i }
-    ensures { result ≡ code_right book.now i }
-{
-    let mut count: usize = 0;
-    let mut j: usize = 0;
-    while j < in_block::ACCOUNTS {
-        if !on_code(book, i, j) {
-            j += 1;
-            continue;
-        }
-        if !member_right(book, i, j) {
-            return false;
-        }
-        count += 1;
-        j += 1;
-    }
-    count <= MOST_MEMBERS
+    book::block_right(book::block_of(book, j)) && same_kind(book, i, j)
 }
 
 // Whether the code of account i is right. On no code the account's block decides, and no other is looked at.
@@ -93,33 +88,8 @@ pub fn code_right(book: &[i64], i: usize) -> bool
     if on_no_code(book, i) {
         return book::block_right(book::block_of(book, i));
     }
-    members_right(book, i)
-}
-
-// Whether block j, where it is on account i's code, has no holding in an unlisted asset.
-fn holds_listed_where_on(book: &[i64], i: usize, clearing: &[i64], j: usize) -> bool
-    requires { InBook book.now i × (j < 16) }
-    ensures { result ≡ where_on (on_code book.now i) (λ k. holds_listed (block_of book.now k) clearing.now) j }
-{
-    if !on_code(book, i, j) {
-        return true;
-    }
-    book::holds_listed(book::block_of(book, j), clearing)
-}
-
-// The same of every block on it.
-fn members_hold_listed(book: &[i64], i: usize, clearing: &[i64]) -> bool
-    requires { InBook book.now i }
-    ensures { result ≡ code_holds_listed book.now i clearing.now }
-{
-    let mut j: usize = 0;
-    while j < in_block::ACCOUNTS {
-        if !holds_listed_where_on(book, i, clearing, j) {
-            return false;
-        }
-        j += 1;
-    }
-    true
+    let members = members_passing(book, i, |j| member_right(book, i, j));
+    members.is_some_and(|count| count <= MOST_MEMBERS)
 }
 
 // Whether no block on account i's code has a holding in an unlisted asset.
@@ -130,7 +100,12 @@ pub fn code_holds_listed(book: &[i64], i: usize, clearing: &[i64]) -> bool
     if on_no_code(book, i) {
         return book::holds_listed(book::block_of(book, i), clearing);
     }
-    members_hold_listed(book, i, clearing)
+    let members = members_passing(
+        book,
+        i,
+        |j| book::holds_listed(book::block_of(book, j), clearing),
+    );
+    members.is_some()
 }
 
 // Whether block j keeps the block rules, holds listed assets only and has account i's kind.
@@ -138,31 +113,7 @@ fn member_stands(book: &[i64], i: usize, clearing: &[i64], j: usize) -> bool
     requires { InBook book.now i × (j < 16) }
     ensures { result ≡ member_right book.now i j && holds_listed (block_of book.now j) clearing.now }
 {
-    if !book::block_stands(book::block_of(book, j), clearing) {
-        return false;
-    }
-    same_kind(book, i, j)
-}
-
-// Whether every block on account i's code is right and holds listed assets only, and there are at most four.
-fn members_stand(book: &[i64], i: usize, clearing: &[i64]) -> bool
-    requires { InBook book.now i }
-    ensures { result ≡ code_right book.now i && code_holds_listed book.now i clearing.now }
-{
-    let mut count: usize = 0;
-    let mut j: usize = 0;
-    while j < in_block::ACCOUNTS {
-        if !on_code(book, i, j) {
-            j += 1;
-            continue;
-        }
-        if !member_stands(book, i, clearing, j) {
-            return false;
-        }
-        count += 1;
-        j += 1;
-    }
-    count <= MOST_MEMBERS
+    book::block_stands(book::block_of(book, j), clearing) && same_kind(book, i, j)
 }
 
 // Whether the code of account i is right and no block on it has a holding in an unlisted asset: what refusal 6 asks where tables are lent, in one look.
@@ -173,7 +124,8 @@ pub fn code_stands(book: &[i64], i: usize, clearing: &[i64]) -> bool
     if on_no_code(book, i) {
         return book::block_stands(book::block_of(book, i), clearing);
     }
-    members_stand(book, i, clearing)
+    let members = members_passing(book, i, |j| member_stands(book, i, clearing, j));
+    members.is_some_and(|count| count <= MOST_MEMBERS)
 }
 
 // The blocks on the code of account i, by a look at every account.
@@ -185,15 +137,11 @@ fn gathered_members(book: &[i64], i: usize) -> Members
     let kind = own.kind;
     let mut count: usize = 0;
     let mut at = [0usize; 4];
-    let mut j: usize = 0;
-    while j < in_block::ACCOUNTS {
-        if !on_code(book, i, j) {
-            j += 1;
-            continue;
+    for j in 0..in_block::ACCOUNTS {
+        if on_code(book, i, j) {
+            at[count] = j;
+            count += 1;
         }
-        at[count] = j;
-        count += 1;
-        j += 1;
     }
     Members { kind, count, at }
 }

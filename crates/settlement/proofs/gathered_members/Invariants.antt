@@ -2,7 +2,7 @@
 -- Assumes nothing.
 use mathlib.Core.Path.{◌≡◌}
 use mathlib.Core.List.{List}
-use Prim.Native.Nat.{ℕ, ◌-◌, ◌≤◌}
+use Prim.Native.Nat.{ℕ}
 use Rattle.book.specs.Members.{kind_at}
 use Rattle.book.specs.declared.members.Members.{Members}
 use Rattle.settlement.specs.Code.{on_code}
@@ -14,7 +14,4 @@ abbrev pub made : ℕ → ℕ → List ℕ → Members
 made kind count at = record { kind = kind; count = count; at = at }
 
 abbrev pub invariant-loop-j : goal.invariant-loop-j
-invariant-loop-j l = (l.j ≤ 16) × (made l.kind l.count l.at ≡ list_of (on_code l.book l.i) (kind_at l.book l.i) l.j)
-
-abbrev pub decreases-loop-j : goal.decreases-loop-j
-decreases-loop-j l = 16 - l.j
+invariant-loop-j l = made l.kind l.count l.at ≡ list_of (on_code l.book l.i) (kind_at l.book l.i) l.j

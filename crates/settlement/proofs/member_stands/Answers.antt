@@ -3,7 +3,7 @@ use mathlib.Core.Path.{sym, ap, ◌∙◌}
 use mathlib.Core.Bool.{Bool, ◌&&◌}
 use mathlib.Core.List.{List}
 use lib.IntN.{ℤ}
-use Rattle.whole.proofs.Tests.{left, taken, first_out, and_then}
+use Rattle.whole.proofs.Tests.{passed, failed, first_out, and_then}
 use Rattle.book.specs.Rules.{good_block, holds_listed}
 use Rattle.settlement.proofs.Right.{member_and_listed}
 use Rattle.settlement.proofs.member_stands.Goals as goal
@@ -12,14 +12,12 @@ use Rattle.settlement.proofs.member_stands.Goals as goal
 abbrev stands : List ℤ → List ℤ → Bool
 stands clearing block = good_block block && holds_listed block clearing
 
-pub returns-then-not-block_stands : goal.returns-then-not-block_stands
-returns-then-not-block_stands c =
+pub returns-then-block_stands : goal.returns-then-block_stands
+returns-then-block_stands c =
     let asked = ap (stands c.args.clearing.now) (sym c.block_of.ensures.0) in
-    sym (first_out _ _ (asked ∙ taken c.block_stands.ensures c.if-not-block_stands.true-raw)) ∙ member_and_listed _ _ _ _
+    and_then _ _ (asked ∙ passed c.block_stands.ensures c.if-block_stands.true) c.same_kind.ensures ∙ member_and_listed _ _ _ _
 
-pub returns : goal.returns
-returns c =
-    let e = c.before in
-    let s = e.before.before in
-    let asked = ap (stands s.args.clearing.now) (sym s.block_of.ensures.0) in
-    and_then _ _ (asked ∙ left e.block_stands.ensures e.if-not-block_stands.false-raw) c.same_kind.ensures ∙ member_and_listed _ _ _ _
+pub returns-else-block_stands : goal.returns-else-block_stands
+returns-else-block_stands c =
+    let asked = ap (stands c.args.clearing.now) (sym c.block_of.ensures.0) in
+    c.if-block_stands.false ∙ sym (first_out _ _ (asked ∙ failed c.block_stands.ensures c.if-block_stands.false)) ∙ member_and_listed _ _ _ _
