@@ -58,7 +58,7 @@ fn same_kind(book: &[i64], i: usize, j: usize) -> bool
 fn members_passing<F: Fn(usize) -> bool>(book: &[i64], i: usize, passes: F) -> Option<usize>
     requires there { InBook book.now i }
     requires callable { (j : ℕ) → j < 16 → F.pre passes j }
-    ensures { (test : ℕ → Bool) → Tells F.Fn passes 16 test → result ≡ passing (on_code book.now i) test }
+    ensures { (test : ℕ → Bool) → Tells F.Fn passes test → result ≡ passing (on_code book.now i) test }
 {
     let mut count: usize = 0;
     for j in 0..in_block::ACCOUNTS {

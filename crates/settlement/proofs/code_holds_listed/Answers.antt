@@ -23,4 +23,4 @@ unfolding code_holds_listed
 returns c =
     let a = c.args in
     let test : ℕ → Bool = λ j. holds_listed (block_of a.book.now j) a.clearing.now in
-    c.is_some.ensures ∙ ap is_some (c.members_passing-members.ensures test (λ j l r p. search rules)) ∙ passing_some (on_code a.book.now a.i) test
+    c.is_some.ensures ∙ ap is_some (c.members_passing-members.ensures test (λ j r p. search rules)) ∙ passing_some (on_code a.book.now a.i) test

@@ -17,5 +17,5 @@ pub returns : goal.returns
 unfolding code_right
 returns c =
     let a = c.args in
-    let passing = c.members_passing-members.ensures (member_right a.book.now a.i) (λ j l r p. search rules) in
+    let passing = c.members_passing-members.ensures (member_right a.book.now a.i) (λ j r p. search rules) in
     passing_few (on_code a.book.now a.i) (member_right a.book.now a.i) _ passing c.is_some_and.ensures (λ n p. search rules)

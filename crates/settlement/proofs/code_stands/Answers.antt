@@ -24,5 +24,5 @@ pub returns : goal.returns
 returns c =
     let a = c.args in
     let test : ℕ → Bool = λ j. member_right a.book.now a.i j && holds_listed (block_of a.book.now j) a.clearing.now in
-    let passing = c.members_passing-members.ensures test (λ j l r p. search rules) in
+    let passing = c.members_passing-members.ensures test (λ j r p. search rules) in
     passing_few (on_code a.book.now a.i) test _ passing c.is_some_and.ensures (λ n p. search rules) ∙ right_and_listed a.book.now a.i a.clearing.now

@@ -17,7 +17,7 @@ loop-j-preserved g c =
       | then-on_code+else-not-passes w ↦ (
         omega arith,
         λ test tells. rw w.count-is
-            (on_looked (l.invariant.1 test tells) (passed c.on_code.ensures w.if-on_code.true) (passed (tells l.j (omega arith) _ w.passes.ensures) w.if-not-passes.false)),
+            (on_looked (l.invariant.1 test tells) (passed c.on_code.ensures w.if-on_code.true) (passed (tells l.j _ w.passes.ensures) w.if-not-passes.false)),
       )
       | else-on_code w ↦ (omega arith, λ test tells. rw w.count-is (off_looked (l.invariant.1 test tells) (failed c.on_code.ensures w.if-on_code.false)))
     ]
@@ -26,7 +26,7 @@ pub returns-then-not-passes : goal.returns-then-not-passes
 returns-then-not-passes g c =
     let l = c.loop-j in
     λ test tells. out_looked (l.invariant.1 test tells) (omega arith) (passed c.on_code.ensures c.if-on_code.true)
-    (failed (tells l.j (omega arith) _ c.passes.ensures) c.if-not-passes.true)
+    (failed (tells l.j _ c.passes.ensures) c.if-not-passes.true)
 
 pub returns : goal.returns
 returns g c =

@@ -7,4 +7,4 @@ use Rattle.settlement.proofs.Codes.{Looked}
 use Rattle.settlement.proofs.members_passing.Given as goal
 
 abbrev pub invariant-loop-j : goal.invariant-loop-j
-invariant-loop-j g l = (l.count ≤ l.j) × ((test : ℕ → Bool) → Tells g.F.Fn l.passes 16 test → Looked (on_code l.book l.i) test l.count l.j)
+invariant-loop-j g l = (l.count ≤ l.j) × ((test : ℕ → Bool) → Tells g.F.Fn l.passes test → Looked (on_code l.book l.i) test l.count l.j)
