@@ -79,7 +79,11 @@ fn head_right(block: &Block) -> bool
 pub fn is_empty(block: &Block) -> bool
     ensures { result ≡ all_zero block.now }
 {
-    block.as_chunks::<PART>().0.iter().all(|part| whole::all_zero(part))
+    block
+        .as_chunks::<PART>()
+        .0
+        .iter()
+        .all(|part| whole::all_zero(part))
 }
 
 // Whether a block is all zero where it is not open, and else has its head and rubles right and a holding that passes in every asset.

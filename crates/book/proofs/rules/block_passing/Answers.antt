@@ -24,7 +24,7 @@ all-requires-clause-callable g c = serves_from_Range (λ x q k. g.met.F.Fn.1.ste
 pub returns-then-rubles_right : goal.returns-then-rubles_right
 returns-then-rubles_right g c = λ test tells.
     let asked = all_from_yields_List test _ _ c.all.result c.all.ensures.ran (YieldsList-from_range 0 16 16 refl refl)
-        (λ x b q k. (g.met.F.Fn.1.step_stays _ _ _ _ k, tells x b (search of_calls))) in
+    (λ x b q k. (g.met.F.Fn.1.step_stays _ _ _ _ k, tells x b (search of_calls))) in
     and_then _ _ (elim c.if-head_right.branch [
       | then-head_right w ↦ sym (and_then _ _ (passed c.head_right.ensures w.if-head_right.true) (sym c.if-rubles_right.true ∙ w.value-is ∙ w.rubles_right.ensures))
       | else-head_right w ↦ true_not_false (sym w.if-head_right.false ∙ sym w.value-is ∙ c.if-rubles_right.true)
