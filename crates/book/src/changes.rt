@@ -7,6 +7,7 @@ ghost use Rattle.book.specs.Changes.{opened, added, money_of, traded, reversed, 
 ghost use Rattle.book.specs.Ranges.{TradeRanges, Tradable, Movable, MoveAsset};
 
 use crate::in_block;
+use crate::in_block::Block;
 use rates::units;
 
 // What open, a move and a trade leave in a block (document 01, "Calls and turning away"). A move and a trade add to numbers; the same with the
@@ -32,7 +33,7 @@ pub(crate) fn open(block: &mut [i64], kind: i64, code: i64)
 }
 
 // Whether number k with an amount added lies from low to high.
-fn fits_after(block: &[i64], k: usize, amount: i64, low: i64, high: i64) -> bool
+fn fits_after(block: &Block, k: usize, amount: i64, low: i64, high: i64) -> bool
     requires { (k < length block.now) × (number block.now k within most_rubles) × (amount within most_rubles) }
     ensures { result ≡ between low (number block.now k +ℤ amount) high }
 {
@@ -85,7 +86,7 @@ pub fn reversed(t: Trade) -> Trade
 }
 
 // Whether every number stays in its bounds with a trade booked: only its own two could leave them.
-pub fn trade_fits(block: &[i64], t: Trade) -> bool
+pub fn trade_fits(block: &Block, t: Trade) -> bool
     requires { Tradable block.now t }
     ensures { result ≡ in_bounds (traded block.now t) }
 {
@@ -147,7 +148,7 @@ fn least_after(amount: i64, most: i64) -> i64
 }
 
 // Whether a move may be booked: its number stays in its bounds, and a withdrawal leaves nothing below 0.
-pub fn move_fits(block: &[i64], asset: usize, amount: i64) -> bool
+pub fn move_fits(block: &Block, asset: usize, amount: i64) -> bool
     requires { Movable block.now asset amount }
     ensures { result ≡ not (move_out block.now asset amount) }
 {

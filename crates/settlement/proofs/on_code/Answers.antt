@@ -1,6 +1,6 @@
 -- `settlement::on_code` meets its contract: the account itself is on its code, any other by number 13 of the two blocks lent. Assumes nothing.
 use mathlib.Core.Path.{sym, ap, ◌∙◌}
-use borrow.Author.Rules.{sfits_of}
+use borrow.Author.Rules.{rules}
 use mir.Syntax.{w64}
 use mir.Facts.{to_z-of_z}
 use Rattle.whole.specs.Bounds.{between}
@@ -17,7 +17,7 @@ returns-then-on_no_code c = off_no_code _ _ _ c.if-i-j.false (passed c.on_no_cod
 
 pub returns : goal.returns
 returns c =
-    let code = sym (ap settlement_code c.block_of-own.ensures.0) ∙ sym (to_z-of_z {w = w64} (sfits_of c.number_is-arg-1.given)) in
+    let code = sym (ap settlement_code c.block_of-own.ensures.0) ∙ sym (to_z-of_z {w = w64} (search rules)) in
     let other = sym (ap settlement_code c.block_of.ensures.0) in
     on_by_code _ _ _ c.if-i-j.false (failed c.on_no_code.ensures c.if-on_no_code.false)
     (c.number_is.ensures ∙ sym (λ t. between (code t) (other t) (code t)))

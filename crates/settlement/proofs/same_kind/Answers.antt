@@ -1,6 +1,6 @@
 -- `settlement::same_kind` meets its contract: the two blocks lent are those of accounts j and i. Assumes nothing.
 use mathlib.Core.Path.{ap, ◌∙◌}
-use borrow.Author.Rules.{sfits_of}
+use borrow.Author.Rules.{rules}
 use mir.Syntax.{w64}
 use mir.Facts.{to_z-of_z}
 use Rattle.whole.specs.Bounds.{between}
@@ -9,6 +9,6 @@ use Rattle.settlement.proofs.same_kind.Goals as goal
 
 pub returns : goal.returns
 returns c =
-    let kind = to_z-of_z {w = w64} (sfits_of c.number_is-arg-1.given) ∙ ap account_kind c.block_of-own.ensures.0 in
+    let kind = to_z-of_z {w = w64} (search rules) ∙ ap account_kind c.block_of-own.ensures.0 in
     let other = ap account_kind c.block_of-block.ensures.0 in
     c.number_is.ensures ∙ (λ t. between (kind t) (other t) (kind t))
