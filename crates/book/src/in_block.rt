@@ -1,3 +1,6 @@
+ghost use Rattle.std.specs.Prelude.{◌≡◌, ◌<◌};
+ghost use Rattle.book.specs.Block.{holding_of};
+
 use rates::units;
 
 // Where each number of the book, of a block and of a holding stands, and its bounds (document 01, "Block"). specs/Block names them for the
@@ -30,6 +33,15 @@ pub const SETTLEMENT_CODE: usize = 13;
 
 // The first of sixteen holdings; that of asset a stands at HOLDINGS + HOLDING_LENGTH * a.
 pub const HOLDINGS: usize = 16;
+
+// The holding of asset a.
+pub(crate) fn holding_of<'a>(block: &'a Block, a: usize) -> &'a Holding
+    requires { a < 16 }
+    ensures { result.now ≡ holding_of block.now a }
+{
+    let at = HOLDINGS + HOLDING_LENGTH * a;
+    block[at..at + HOLDING_LENGTH].as_array().unwrap()
+}
 
 // In a holding.
 pub const COLLATERAL: usize = 0;

@@ -4,8 +4,10 @@ ghost use Rattle.book.specs.Roll.{day_later, rolled_rubles, rolled_holding, roll
 ghost use Rattle.book.specs.Ranges.{RubleRanges, HoldingRanges, Bounded};
 ghost use Rattle.whole.specs.Parts.{number};
 
-use crate::in_block::{Block, CLAIMS, COLLATERAL, HOLDING_LENGTH, HOLDINGS, Holding, OBLIGATIONS};
-use crate::{in_block, rules};
+use crate::in_block;
+use crate::in_block::{
+    Block, CLAIMS, COLLATERAL, HOLDING_LENGTH, HOLDINGS, Holding, OBLIGATIONS, holding_of,
+};
 use rates::units::ASSET_COUNT;
 
 // The roll of a block (document 01, "Roll"), in place: first it is seen that every sum stays in its bounds, then each stretch is rolled.
@@ -88,5 +90,5 @@ pub fn roll_fits(block: &Block) -> bool
     ensures { result ≡ in_bounds (rolled block.now) }
 {
     rubles_fit(&block[in_block::RUBLE_COLLATERAL..in_block::RUBLES_END])
-        && (0..ASSET_COUNT).all(|a| holding_fits(rules::holding_of(block, a)))
+        && (0..ASSET_COUNT).all(|a| holding_fits(holding_of(block, a)))
 }

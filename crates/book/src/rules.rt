@@ -2,26 +2,17 @@ ghost use Rattle.std.specs.Prelude.{◌≡◌, Bool, ◌&&◌, map, ℕ, ◌<◌
 ghost use Rattle.whole.specs.Bounds.{between};
 ghost use Rattle.whole.specs.Marks.{all_true, all_zero};
 ghost use Rattle.book.specs.Asked.{Tells};
-ghost use Rattle.book.specs.Block.{ruble_numbers, holding_of};
+ghost use Rattle.book.specs.Block.{ruble_numbers};
 ghost use Rattle.book.specs.Rules.{rubles_right, head_marks, holding_right, holding_right_at, good_block, stands, listed_if_held, holds_listed};
 
 use crate::in_block;
-use crate::in_block::{Block, HOLDING_LENGTH, HOLDINGS, Holding};
+use crate::in_block::{Block, Holding, holding_of};
 use rates::units::ASSET_COUNT;
 
 // The block rules (document 01, "Block").
 
-// The numbers of a part of a block of which only zeros are asked.
+// The numbers of a part of a block, of which only zeros are asked; a block is nine of them.
 const PART: usize = 32;
-
-// The holding of asset a.
-pub(crate) fn holding_of<'a>(block: &'a Block, a: usize) -> &'a Holding
-    requires { a < 16 }
-    ensures { result.now ≡ holding_of block.now a }
-{
-    let at = HOLDINGS + HOLDING_LENGTH * a;
-    block[at..at + HOLDING_LENGTH].as_array().unwrap()
-}
 
 // Whether every number lies from low to high.
 fn all_between(numbers: &[i64], low: i64, high: i64) -> bool
@@ -79,11 +70,8 @@ fn head_right(block: &Block) -> bool
 pub fn is_empty(block: &Block) -> bool
     ensures { result ≡ all_zero block.now }
 {
-    block
-        .as_chunks::<PART>()
-        .0
-        .iter()
-        .all(|part| whole::all_zero(part))
+    let (parts, _) = block.as_chunks::<PART>();
+    parts.iter().all(|part| whole::all_zero(part))
 }
 
 // Whether a block is all zero where it is not open, and else has its head and rubles right and a holding that passes in every asset.

@@ -3,7 +3,6 @@ use lib.ListN.{length}
 use mathlib.Core.List.{List}
 use mathlib.Core.Path.{◌≡◌, ap, ◌∙◌}
 use lib.IntN.{ℤ}
-use Rattle.std.proofs.Common.{rules}
 use Rattle.book.proofs.Blocks.{lent_block}
 use Rattle.book.proofs.AtAccount.{of_lent, block_long}
 use Rattle.book.proofs.accounts.block_of.Goals as goal

@@ -1,5 +1,5 @@
 -- `rolling::day_later` meets its contract: the numbers of dates 1 to 7 are copied to dates 0 to 6. Assumes nothing.
-use mathlib.Core.Path.{◌≡◌, ap, ◌∙◌}
+use mathlib.Core.Path.{ap, ◌∙◌}
 use mathlib.Core.List.{List}
 use lib.IntN.{ℤ, pos}
 use lib.ListN.{set}

@@ -1,15 +1,10 @@
 -- `rules::block_passing` meets its contract: of a block that is not open zeros are asked, of an open one its head, its rubles and each holding.
 -- Assumes nothing.
-use mathlib.Core.Path.{◌≡◌, refl, sym, ap, ◌∙◌}
-use mathlib.Core.Bool.{◌&&◌, and_assoc}
-use borrow.Author.Tests.{tests}
-use Rattle.std.proofs.Common.{rules, of_calls}
+use mathlib.Core.Path.{refl, sym, ◌∙◌}
+use Rattle.std.proofs.Common.{of_calls}
 use Rattle.std.proofs.lemmas.Iterator.{YieldsList-from_range, serves_from_Range}
 use Rattle.std.proofs.lemmas.Iterator.Search.{all_from_yields_List}
-use Rattle.whole.specs.Marks.{all_true}
 use Rattle.whole.proofs.Tests.{passed, failed, first_out, and_then, true_not_false}
-use Rattle.book.specs.Block.{ruble_numbers}
-use Rattle.book.specs.Rules.{head_marks, rubles_right}
 use Rattle.book.proofs.Asked.{all_asked}
 use Rattle.book.proofs.Good.{stands_by_zeros, stands_by_parts}
 use Rattle.book.proofs.rules.block_passing.Goals as goal

@@ -1,5 +1,4 @@
 -- `rules::block_right` meets its contract: each holding is asked for its bounds. Assumes nothing.
-use mathlib.Core.Path.{◌∙◌}
 use Rattle.std.proofs.Common.{rules}
 use Rattle.book.specs.Rules.{holding_right_at, in_bounds, good_block, stands}
 use Rattle.book.proofs.rules.block_right.Goals as goal
