@@ -13,8 +13,8 @@ use rates::units;
 // What open, a move and a trade leave in a block (document 01, "Calls and turning away"). A move and a trade add to numbers; the same with the
 // amounts turned round takes them back.
 
-// A trade: a buy on side 0, a sell on side 1.
-#[derive(Clone, Copy)]
+// A trade: a buy on side 0, a sell on side 1. The side is a number, since specs/Changes says of every number what a trade of that side does.
+#[derive(Clone, Copy, Debug, PartialEq, Eq)]
 pub struct Trade {
     pub asset: usize,
     pub date: usize,
@@ -45,7 +45,7 @@ fn add(block: &mut [i64], k: usize, amount: i64)
     requires { (k < length block.old) × (number block.old k within most_rubles) × (amount within most_rubles) }
     ensures { block.new ≡ added block.old k amount }
 {
-    block[k] = block[k] + amount;
+    block[k] += amount;
 }
 
 // Where the claim or the obligation stands that a trade adds to.

@@ -9,7 +9,7 @@ use crate::{accounts, in_block};
 // The blocks that are valued together: a short list by value, so that no block is copied and the book is lent once.
 
 // The kind that the members share, and their places in the book: the first `count` numbers of `at`.
-#[derive(Clone, Copy)]
+#[derive(Clone, Copy, Debug, PartialEq, Eq)]
 pub struct Members {
     pub kind: usize,
     pub count: usize,
@@ -30,20 +30,16 @@ pub fn alone(book: &[i64], i: usize) -> Members
 
 // The place of member k. Every number is read at a constant place: a list that is read at a computed one is first copied to memory, at each look.
 fn place_of(members: Members, k: usize) -> usize
-    requires { (length members.at ≡ most_members) × (k < most_members) }
+    requires { k < most_members }
     ensures { result ≡ member_at members k }
 {
     let at = members.at;
-    if k == 0 {
-        return at[0];
+    match k {
+        0 => at[0],
+        1 => at[1],
+        2 => at[2],
+        _ => at[3],
     }
-    if k == 1 {
-        return at[1];
-    }
-    if k == 2 {
-        return at[2];
-    }
-    at[3]
 }
 
 // The block of member k.

@@ -8,17 +8,17 @@ use crate::in_block;
 use crate::in_block::{
     Block, CLAIMS, COLLATERAL, HOLDING_LENGTH, HOLDINGS, Holding, OBLIGATIONS, holding_of,
 };
-use rates::units::ASSET_COUNT;
+use rates::units::{ASSET_COUNT, DATE_COUNT};
 
 // The roll of a block (document 01, "Roll"), in place: first it is seen that every sum stays in its bounds, then each stretch is rolled.
 
 // Of the nine ruble numbers the nets stand behind the collateral.
 const NETS: usize = 1;
 
-const NETS_END: usize = 9;
+const NETS_END: usize = NETS + DATE_COUNT;
 
 // The last of eight dates.
-const LAST: usize = 7;
+const LAST: usize = DATE_COUNT - 1;
 
 // Eight numbers by date, a day later.
 fn day_later(numbers: &mut [i64])
@@ -34,7 +34,7 @@ fn roll_rubles(rubles: &mut [i64])
     requires { RubleRanges rubles.old }
     ensures { rubles.new ≡ rolled_rubles rubles.old }
 {
-    rubles[0] = rubles[0] + rubles[NETS];
+    rubles[0] += rubles[NETS];
     day_later(&mut rubles[NETS..NETS_END]);
 }
 
