@@ -9,7 +9,8 @@ use crate::changes::Trade;
 use crate::in_block::{Block, LENGTH};
 use crate::{changes, rolling};
 
-// One account's block in the book: lent to be read, or changed where it stands. No other file says where a block begins.
+// One account's block in the book: lent to be read, or changed where it stands. No other file says where a block begins. What changes a block cuts it
+// out itself: a function that lent it to be changed would get no generated proof of what it leaves in the book.
 
 // The block of an account.
 pub fn block_of<'a>(book: &'a [i64], i: usize) -> &'a Block

@@ -65,10 +65,7 @@ fn money_of(t: Trade) -> i64
     requires { TradeRanges t }
     ensures { (result ≡ money_of t) × (result within most_rubles) }
 {
-    if t.side == 0 {
-        return -t.money;
-    }
-    t.money
+    if t.side == 0 { -t.money } else { t.money }
 }
 
 // The trade that takes a trade back.
@@ -90,17 +87,14 @@ pub fn trade_fits(block: &Block, t: Trade) -> bool
     requires { Tradable block.now t }
     ensures { result ≡ in_bounds (traded block.now t) }
 {
-    if !fits_after(block, trade_at(t), t.quantity, 0, in_block::MOST_UNITS) {
-        return false;
-    }
-    let money = money_of(t);
-    fits_after(
-        block,
-        in_block::RUBLE_NETS + t.date,
-        money,
-        -in_block::MOST_RUBLES,
-        in_block::MOST_RUBLES,
-    )
+    fits_after(block, trade_at(t), t.quantity, 0, in_block::MOST_UNITS)
+        && fits_after(
+            block,
+            in_block::RUBLE_NETS + t.date,
+            money_of(t),
+            -in_block::MOST_RUBLES,
+            in_block::MOST_RUBLES,
+        )
 }
 
 // Book a trade.
@@ -120,9 +114,10 @@ fn move_at(asset: usize) -> usize
     ensures { (result ≡ move_at asset) × (result < block_length) }
 {
     if asset == in_block::RUBLES {
-        return in_block::RUBLE_COLLATERAL;
+        in_block::RUBLE_COLLATERAL
+    } else {
+        in_block::HOLDINGS + in_block::HOLDING_LENGTH * asset
     }
-    in_block::HOLDINGS + in_block::HOLDING_LENGTH * asset
 }
 
 // The most that may stand there.
@@ -130,9 +125,10 @@ fn most_of(asset: usize) -> i64
     ensures { (result ≡ most_of asset) × (result upto most_rubles) }
 {
     if asset == in_block::RUBLES {
-        return in_block::MOST_RUBLES;
+        in_block::MOST_RUBLES
+    } else {
+        in_block::MOST_UNITS
     }
-    in_block::MOST_UNITS
 }
 
 // The least that a move may leave there: 0 for a withdrawal, else −most.
@@ -141,10 +137,7 @@ fn least_after(amount: i64, most: i64) -> i64
     requires { most upto most_rubles }
     ensures { (result ≡ least_after amount most) × (result within most_rubles) }
 {
-    if amount < 0 {
-        return 0;
-    }
-    -most
+    if amount < 0 { 0 } else { -most }
 }
 
 // Whether a move may be booked: its number stays in its bounds, and a withdrawal leaves nothing below 0.

@@ -50,7 +50,8 @@ pub const CLAIMS: usize = 1;
 
 pub const OBLIGATIONS: usize = 9;
 
-// The asset that stands for rubles in a move.
+// The asset that stands for rubles in a move: a number among the others, as the calls of C name it, and specs/Changes says of every number what a move
+// of it adds to.
 pub const RUBLES: usize = 255;
 
 // The kinds of an open account: ordinary, pool, pool of the list.
