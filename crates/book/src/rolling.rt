@@ -48,7 +48,7 @@ fn roll_holding(holding: &mut [i64])
     day_later(&mut holding[OBLIGATIONS..HOLDING_LENGTH]);
 }
 
-// Roll a block: rubles and holdings.
+// Roll a block: rubles and holdings. Each holding is cut out by its place: after `chunks_exact_mut` a proof knows nothing of the numbers.
 pub(crate) fn roll(block: &mut [i64])
     requires { Bounded block.old }
     ensures { block.new ≡ rolled block.old }
