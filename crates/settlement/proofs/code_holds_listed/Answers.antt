@@ -15,7 +15,7 @@ use Rattle.settlement.proofs.code_holds_listed.Goals as goal
 pub returns-then-on_no_code : goal.returns-then-on_no_code
 returns-then-on_no_code c =
     c.holds_listed.ensures
-    ∙ ap (λ (b : List ℤ). holds_listed b c.args.clearing.now) c.block_of.ensures.0
+    ∙ ap (λ (b : List ℤ). holds_listed b c.args.clearing.now) c.own.ensures
     ∙ sym (alone_holds_listed _ _ c.requires.below (no_code_unshared _ _ (passed c.on_no_code.ensures c.if-on_no_code.true)) _)
 
 pub returns : goal.returns

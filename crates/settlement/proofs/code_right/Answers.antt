@@ -10,7 +10,7 @@ use Rattle.settlement.proofs.code_right.Goals as goal
 
 pub returns-then-on_no_code : goal.returns-then-on_no_code
 returns-then-on_no_code c =
-    c.block_right.ensures ∙ ap good_block c.block_of.ensures.0
+    c.block_right.ensures ∙ ap good_block c.own.ensures
     ∙ sym (alone_right _ _ c.requires.below (no_code_unshared _ _ (passed c.on_no_code.ensures c.if-on_no_code.true)))
 
 pub returns : goal.returns

@@ -17,7 +17,7 @@ pub returns-then-on_no_code : goal.returns-then-on_no_code
 returns-then-on_no_code c =
     let alone = no_code_unshared _ _ (passed c.on_no_code.ensures c.if-on_no_code.true) in
     c.block_stands.ensures
-    ∙ ap (λ (b : List ℤ). good_block b && holds_listed b c.args.clearing.now) c.block_of.ensures.0
+    ∙ ap (λ (b : List ℤ). good_block b && holds_listed b c.args.clearing.now) c.own.ensures
     ∙ sym (ap₂ ◌&&◌ (alone_right _ _ c.requires.below alone) (alone_holds_listed _ _ c.requires.below alone _))
 
 pub returns : goal.returns

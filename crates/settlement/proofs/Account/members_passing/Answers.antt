@@ -1,11 +1,11 @@
--- `settlement::members_passing` meets its contract. The loop's invariant: every account before j that is on the code passes, and they are counted.
+-- `settlement::Account::members_passing` meets its contract. The loop's invariant: every account before j that is on the code passes, and they are counted.
 -- Assumes nothing.
 use mathlib.Core.Path.{◌≡◌}
 use native.Mathlib.Omega.{arith}
 use Rattle.whole.proofs.Tests.{passed, failed}
 use Rattle.settlement.proofs.Codes.{none_looked, off_looked, on_looked, out_looked, all_looked}
-use Rattle.settlement.proofs.members_passing.Goals as goal
-use Rattle.settlement.proofs.members_passing.Goals.{then-on_code+else-not-passes, else-on_code}
+use Rattle.settlement.proofs.Account.members_passing.Goals as goal
+use Rattle.settlement.proofs.Account.members_passing.Goals.{then-on_code+else-not-passes, else-on_code}
 
 pub loop-j-init : goal.loop-j-init
 loop-j-init g c = (omega arith, λ test tells. none_looked)

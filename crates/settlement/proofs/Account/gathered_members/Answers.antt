@@ -1,4 +1,4 @@
--- `settlement::gathered_members` meets its contract. The loop's invariant: count and places are those of the accounts before j that are on the code.
+-- `settlement::Account::gathered_members` meets its contract. The loop's invariant: count and places are those of the accounts before j that are on the code.
 -- Assumes nothing.
 use mathlib.Core.Path.{◌≡◌, sym, ap, ap₂, ◌∙◌}
 use mathlib.Core.Bool.{Bool, cond}
@@ -13,9 +13,9 @@ use Rattle.settlement.specs.Members.{joined, list_of}
 use Rattle.settlement.proofs.Codes.{room_before}
 use Rattle.settlement.proofs.Right.{own_in_range}
 use Rattle.settlement.proofs.Listing.{list_count, list_turn}
-use Rattle.settlement.proofs.gathered_members.Invariants.{made}
-use Rattle.settlement.proofs.gathered_members.Goals as goal
-use Rattle.settlement.proofs.gathered_members.Goals.{Then-on_code, then-on_code, else-on_code}
+use Rattle.settlement.proofs.Account.gathered_members.Invariants.{made}
+use Rattle.settlement.proofs.Account.gathered_members.Goals as goal
+use Rattle.settlement.proofs.Account.gathered_members.Goals.{Then-on_code, then-on_code, else-on_code}
 
 pub alone-own-requires : goal.alone-own-requires
 alone-own-requires c = own_in_range _ _ c.requires
@@ -30,8 +30,8 @@ loop-j-init c =
 free : (c : Then-on_code) → c.loop-j.count < 4
 free c =
     let l = c.loop-j in
-    let on = on_code c.args.book.now c.args.i in
-    let counted = ap (λ (m : Members). m.count) l.invariant ∙ list_count on (kind_at c.args.book.now c.args.i) l.j in
+    let on = on_code c.args.self.now.book.now c.args.self.now.i in
+    let counted = ap (λ (m : Members). m.count) l.invariant ∙ list_count on (kind_at c.args.self.now.book.now c.args.self.now.i) l.j in
     omega (arith, counted, c.requires.few, room_before on l.j 16 (omega arith) (passed c.on_code.ensures c.if-on_code.true))
 
 pub offset_bounds-at-count : goal.offset_bounds-at-count
@@ -47,7 +47,7 @@ pub loop-j-preserved : goal.loop-j-preserved
 loop-j-preserved c =
     let l = c.loop-j in
     let m = made c.alone-own.result.kind l.count l.at in
-    let turn = list_turn (on_code c.args.book.now c.args.i) (kind_at c.args.book.now c.args.i) l.j m _ l.invariant in
+    let turn = list_turn (on_code c.args.self.now.book.now c.args.self.now.i) (kind_at c.args.self.now.book.now c.args.self.now.i) l.j m _ l.invariant in
     elim c.if-on_code.branch [
       | then-on_code w ↦ turn (ap₂ (made c.alone-own.result.kind) w.count-is w.at-is ∙ ap (λ (t : Bool). cond t (joined m l.j) m) (sym (passed c.on_code.ensures w.if-on_code.true)))
       | else-on_code w ↦ turn (ap₂ (made c.alone-own.result.kind) w.count-is w.at-is ∙ ap (λ (t : Bool). cond t (joined m l.j) m) (sym (failed c.on_code.ensures w.if-on_code.false)))
@@ -58,4 +58,4 @@ returns c =
     let l = c.loop-j in
     let a = c.args in
     let done : l.j ≡ 16 = omega arith in
-    l.invariant ∙ ap (list_of (on_code a.book.now a.i) (kind_at a.book.now a.i)) done
+    l.invariant ∙ ap (list_of (on_code a.self.now.book.now a.self.now.i) (kind_at a.self.now.book.now a.self.now.i)) done
