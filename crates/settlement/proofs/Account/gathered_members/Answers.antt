@@ -35,13 +35,13 @@ free c =
     omega (arith, counted, c.requires.few, room_before on l.j 16 (omega arith) (passed c.on_code.ensures c.if-on_code.true))
 
 pub offset_bounds-at-count : goal.offset_bounds-at-count
-offset_bounds-at-count c = omega (arith, free c)
+offset_bounds-at-count c = omega (arith, free (goal.at.offset_bounds-at-count c).Then-on_code)
 
 pub bounds-at-count : goal.bounds-at-count
-bounds-at-count c = free c
+bounds-at-count c = free (goal.at.bounds-at-count c).Then-on_code
 
 pub overflow_add-count : goal.overflow_add-count
-overflow_add-count c = omega (arith, free c)
+overflow_add-count c = omega (arith, free (goal.at.overflow_add-count c).Then-on_code)
 
 pub loop-j-preserved : goal.loop-j-preserved
 loop-j-preserved c =
