@@ -19,10 +19,10 @@ use Rattle.whole.proofs.Tests.{both, and_left, and_right, either_left, either_ri
 use Rattle.whole.proofs.Every.{every_by}
 use Rattle.rates.specs.Tables.{listed}
 use Rattle.book.specs.Block.{account_kind, ruble_numbers, holding_of, collateral, InHead}
-use Rattle.book.specs.Rules.{rubles_right, collateral_right, quantity_right, head_marks, holding_right, holding_right_at, in_bounds, good_block}
+use Rattle.book.specs.Rules.{rubles_right, collateral_right, quantity_right, head_marks, holding_right, holding_right_at, in_bounds, good_block, stands}
 use Rattle.book.specs.Rules.{listed_if_held, holds_listed}
 use Rattle.book.specs.Ranges.{BlockRanges}
-use Rattle.book.proofs.Holdings.{listed_by}
+use Rattle.book.proofs.Holdings.{every_both, listed_by}
 use Rattle.book.proofs.InBounds.{zero_rubles, zero_collateral, zero_quantity, ruble_ranges, holding_ranges}
 
 -- ---- the two kinds of good blocks
@@ -92,17 +92,36 @@ module _ (block clearing : List ℤ) where
         ∙ and_comm (all_zero (holding_of block a)) (holding_right_at block a)
         ∙ ap (λ (t : Bool). holding_right_at block a && (t || all_zero (holding_of block a))) (sym e)
 
-  pub stands_closed : is_zero (account_kind block) ≡ true → all_zero block ≡ good_block block && holds_listed block clearing
-  stands_closed e =
-      follows (all_zero block) (holds_listed block clearing) (λ z. empty_listed block z clearing)
-      ∙ ap (λ (t : Bool). t && holds_listed block clearing) (sym (good_closed block e))
+-- a block as it stands by a test of each asset
+module _ (block : List ℤ) (test : ℕ → Bool) where
+  pub stands_by_zeros : is_zero (account_kind block) ≡ true → all_zero block ≡ stands block test
+  unfolding stands
+  stands_by_zeros e = rw e refl
 
-  -- an open one: its head, its rubles, then its holdings
-  pub stands_open : is_zero (account_kind block) ≡ false
-      → good_block block && holds_listed block clearing
-      ≡ all_true (head_marks block) && (all_true (map rubles_right (ruble_numbers block)) && (every 16 (holding_right_at block) && holds_listed block clearing))
-  unfolding in_bounds
-  stands_open e = rw (good_open block e) (simp and_assoc refl)
+  pub stands_by_parts : is_zero (account_kind block) ≡ false
+      → (all_true (head_marks block) && all_true (map rubles_right (ruble_numbers block))) && every 16 test ≡ stands block test
+  unfolding stands
+  stands_by_parts e = rw e (and_assoc (all_true (head_marks block)) _ _)
+
+-- with both tests of each asset it is good and holds nothing unlisted
+module _ (block clearing : List ℤ) where
+  both_asked : ℕ → Bool
+  both_asked a = holding_right_at block a && listed_if_held block clearing a
+
+  opened : Bool → Bool
+  opened t = all_true (head_marks block) && (all_true (map rubles_right (ruble_numbers block)) && t)
+
+  asked_apart : opened (every 16 both_asked) ≡ opened (every 16 (holding_right_at block)) && holds_listed block clearing
+  unfolding opened both_asked holds_listed
+  asked_apart = ap opened (every_both (holding_right_at block) (listed_if_held block clearing) 16) ∙ simp and_assoc refl
+
+  pub stands_by_both : stands block (λ a. holding_right_at block a && listed_if_held block clearing a) ≡ good_block block && holds_listed block clearing
+  unfolding stands good_block in_bounds opened both_asked
+  stands_by_both = go (is_zero (account_kind block))
+    where
+      go : (t : Bool) → cond t (all_zero block) (opened (every 16 both_asked)) ≡ cond t (all_zero block) (opened (every 16 (holding_right_at block))) && holds_listed block clearing
+      go true = follows (all_zero block) (holds_listed block clearing) (λ z. empty_listed block z clearing)
+      go false = asked_apart
 
 -- ---- every good block
 module _ (block : List ℤ) (long : length block ≡ 288) (good : good_block block ≡ true) where

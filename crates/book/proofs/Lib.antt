@@ -1,4 +1,5 @@
 -- The laws that callers of `book` cite, and those that its own proofs share.
+pub mod Asked
 pub mod Blocks
 pub mod Amounts
 pub mod Holdings

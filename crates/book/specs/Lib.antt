@@ -8,3 +8,4 @@ pub mod Choices
 pub mod Ranges
 pub mod AtAccount
 pub mod Members
+pub mod Asked

@@ -49,6 +49,11 @@ holding_right_at block a = holding_right (holding_of block a)
 unfoldable pub in_bounds : List ℤ → Bool
 in_bounds block = all_true (map rubles_right (ruble_numbers block)) && every assets (holding_right_at block)
 
+-- a block that is all zero, or one that is open, in its bounds as far as its rubles, and with a holding in every asset that passes a test
+unfoldable pub stands : List ℤ → (ℕ → Bool) → Bool
+stands block test =
+    cond (is_zero (account_kind block)) (all_zero block) (all_true (head_marks block) && (all_true (map rubles_right (ruble_numbers block)) && every assets test))
+
 -- the block rules
 unfoldable pub good_block : List ℤ → Bool
 good_block block = cond (is_zero (account_kind block)) (all_zero block) (all_true (head_marks block) && in_bounds block)

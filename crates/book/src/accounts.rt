@@ -6,17 +6,18 @@ ghost use Rattle.book.specs.Ranges.{Bounded, Tradable, Movable};
 ghost use Rattle.book.specs.AtAccount.{at_account, InBook};
 
 use crate::changes::Trade;
-use crate::in_block::LENGTH;
+use crate::in_block::{Block, LENGTH};
 use crate::{changes, rolling};
 
-// One account's block in the book: lent to be read, or changed where it stands. No other file says where a block begins.
+// One account's block in the book: lent to be read, or changed where it stands. No other file says where a block begins. What changes a block cuts it
+// out itself: a function that lent it to be changed would get no generated proof of what it leaves in the book.
 
 // The block of an account.
-pub fn block_of<'a>(book: &'a [i64], i: usize) -> &'a [i64]
+pub fn block_of<'a>(book: &'a [i64], i: usize) -> &'a Block
     requires { InBook book.now i }
     ensures { (result.now ≡ block_of book.now i) × (length result.now ≡ block_length) }
 {
-    &book[LENGTH * i..LENGTH * (i + 1)]
+    book[LENGTH * i..LENGTH * (i + 1)].as_array().unwrap()
 }
 
 // Open it on a settlement code; kind 0 and code 0 take the opening of an empty block back.

@@ -7,13 +7,14 @@ ghost use Rattle.book.specs.Changes.{opened, added, money_of, traded, reversed, 
 ghost use Rattle.book.specs.Ranges.{TradeRanges, Tradable, Movable, MoveAsset};
 
 use crate::in_block;
+use crate::in_block::Block;
 use rates::units;
 
 // What open, a move and a trade leave in a block (document 01, "Calls and turning away"). A move and a trade add to numbers; the same with the
 // amounts turned round takes them back.
 
-// A trade: a buy on side 0, a sell on side 1.
-#[derive(Clone, Copy)]
+// A trade: a buy on side 0, a sell on side 1. The side is a number, since specs/Changes says of every number what a trade of that side does.
+#[derive(Clone, Copy, Debug, PartialEq, Eq)]
 pub struct Trade {
     pub asset: usize,
     pub date: usize,
@@ -32,7 +33,7 @@ pub(crate) fn open(block: &mut [i64], kind: i64, code: i64)
 }
 
 // Whether number k with an amount added lies from low to high.
-fn fits_after(block: &[i64], k: usize, amount: i64, low: i64, high: i64) -> bool
+fn fits_after(block: &Block, k: usize, amount: i64, low: i64, high: i64) -> bool
     requires { (k < length block.now) × (number block.now k within most_rubles) × (amount within most_rubles) }
     ensures { result ≡ between low (number block.now k +ℤ amount) high }
 {
@@ -44,7 +45,7 @@ fn add(block: &mut [i64], k: usize, amount: i64)
     requires { (k < length block.old) × (number block.old k within most_rubles) × (amount within most_rubles) }
     ensures { block.new ≡ added block.old k amount }
 {
-    block[k] = block[k] + amount;
+    block[k] += amount;
 }
 
 // Where the claim or the obligation stands that a trade adds to.
@@ -64,10 +65,7 @@ fn money_of(t: Trade) -> i64
     requires { TradeRanges t }
     ensures { (result ≡ money_of t) × (result within most_rubles) }
 {
-    if t.side == 0 {
-        return -t.money;
-    }
-    t.money
+    if t.side == 0 { -t.money } else { t.money }
 }
 
 // The trade that takes a trade back.
@@ -85,21 +83,18 @@ pub fn reversed(t: Trade) -> Trade
 }
 
 // Whether every number stays in its bounds with a trade booked: only its own two could leave them.
-pub fn trade_fits(block: &[i64], t: Trade) -> bool
+pub fn trade_fits(block: &Block, t: Trade) -> bool
     requires { Tradable block.now t }
     ensures { result ≡ in_bounds (traded block.now t) }
 {
-    if !fits_after(block, trade_at(t), t.quantity, 0, in_block::MOST_UNITS) {
-        return false;
-    }
-    let money = money_of(t);
-    fits_after(
-        block,
-        in_block::RUBLE_NETS + t.date,
-        money,
-        -in_block::MOST_RUBLES,
-        in_block::MOST_RUBLES,
-    )
+    fits_after(block, trade_at(t), t.quantity, 0, in_block::MOST_UNITS)
+        && fits_after(
+            block,
+            in_block::RUBLE_NETS + t.date,
+            money_of(t),
+            -in_block::MOST_RUBLES,
+            in_block::MOST_RUBLES,
+        )
 }
 
 // Book a trade.
@@ -119,9 +114,10 @@ fn move_at(asset: usize) -> usize
     ensures { (result ≡ move_at asset) × (result < block_length) }
 {
     if asset == in_block::RUBLES {
-        return in_block::RUBLE_COLLATERAL;
+        in_block::RUBLE_COLLATERAL
+    } else {
+        in_block::HOLDINGS + in_block::HOLDING_LENGTH * asset
     }
-    in_block::HOLDINGS + in_block::HOLDING_LENGTH * asset
 }
 
 // The most that may stand there.
@@ -129,9 +125,10 @@ fn most_of(asset: usize) -> i64
     ensures { (result ≡ most_of asset) × (result upto most_rubles) }
 {
     if asset == in_block::RUBLES {
-        return in_block::MOST_RUBLES;
+        in_block::MOST_RUBLES
+    } else {
+        in_block::MOST_UNITS
     }
-    in_block::MOST_UNITS
 }
 
 // The least that a move may leave there: 0 for a withdrawal, else −most.
@@ -140,14 +137,11 @@ fn least_after(amount: i64, most: i64) -> i64
     requires { most upto most_rubles }
     ensures { (result ≡ least_after amount most) × (result within most_rubles) }
 {
-    if amount < 0 {
-        return 0;
-    }
-    -most
+    if amount < 0 { 0 } else { -most }
 }
 
 // Whether a move may be booked: its number stays in its bounds, and a withdrawal leaves nothing below 0.
-pub fn move_fits(block: &[i64], asset: usize, amount: i64) -> bool
+pub fn move_fits(block: &Block, asset: usize, amount: i64) -> bool
     requires { Movable block.now asset amount }
     ensures { result ≡ not (move_out block.now asset amount) }
 {

@@ -1,4 +1,4 @@
-ghost use Rattle.std.specs.Prelude.{◌≡◌, ◌<◌, length};
+ghost use Rattle.std.specs.Prelude.{◌≡◌, ◌<◌};
 ghost use Rattle.whole.specs.Bounds.{◌upto◌};
 ghost use Rattle.book.specs.Block.{block_of, account_kind};
 ghost use Rattle.book.specs.AtAccount.{InBook};
@@ -8,8 +8,9 @@ use crate::{accounts, in_block};
 
 // The blocks that are valued together: a short list by value, so that no block is copied and the book is lent once.
 
-// The kind that the members share, and their places in the book: the first `count` numbers of `at`.
-#[derive(Clone, Copy)]
+// The kind that the members share, and their places in the book: the first `count` numbers of `at`. No heap holds a list, and specs/Members adds over
+// these fields; the kind is a number, since the definitions of assets say of every number what it counts.
+#[derive(Clone, Copy, Debug, PartialEq, Eq)]
 pub struct Members {
     pub kind: usize,
     pub count: usize,
@@ -23,27 +24,25 @@ pub fn alone(book: &[i64], i: usize) -> Members
 {
     let block = accounts::block_of(book, i);
     let kind = block[in_block::ACCOUNT_KIND] as usize;
-    let mut at = [0usize; 4];
-    at[0] = i;
-    Members { kind, count: 1, at }
+    Members {
+        kind,
+        count: 1,
+        at: [i, 0, 0, 0],
+    }
 }
 
 // The place of member k. Every number is read at a constant place: a list that is read at a computed one is first copied to memory, at each look.
 fn place_of(members: Members, k: usize) -> usize
-    requires { (length members.at ≡ most_members) × (k < most_members) }
+    requires { k < most_members }
     ensures { result ≡ member_at members k }
 {
     let at = members.at;
-    if k == 0 {
-        return at[0];
+    match k {
+        0 => at[0],
+        1 => at[1],
+        2 => at[2],
+        _ => at[3],
     }
-    if k == 1 {
-        return at[1];
-    }
-    if k == 2 {
-        return at[2];
-    }
-    at[3]
 }
 
 // The block of member k.

@@ -5,29 +5,27 @@ ghost use Rattle.book.specs.Ranges.{RubleRanges, HoldingRanges, Bounded};
 ghost use Rattle.whole.specs.Parts.{number};
 
 use crate::in_block;
-use crate::in_block::{CLAIMS, COLLATERAL, HOLDING_LENGTH, HOLDINGS, OBLIGATIONS};
-use rates::units::ASSET_COUNT;
+use crate::in_block::{
+    Block, CLAIMS, COLLATERAL, HOLDING_LENGTH, HOLDINGS, Holding, OBLIGATIONS, holding_of,
+};
+use rates::units::{ASSET_COUNT, DATE_COUNT};
 
 // The roll of a block (document 01, "Roll"), in place: first it is seen that every sum stays in its bounds, then each stretch is rolled.
 
 // Of the nine ruble numbers the nets stand behind the collateral.
 const NETS: usize = 1;
 
-const NETS_END: usize = 9;
+const NETS_END: usize = NETS + DATE_COUNT;
 
 // The last of eight dates.
-const LAST: usize = 7;
+const LAST: usize = DATE_COUNT - 1;
 
 // Eight numbers by date, a day later.
 fn day_later(numbers: &mut [i64])
     requires { length numbers.old ≡ 8 }
     ensures { numbers.new ≡ day_later numbers.old }
 {
-    let mut d = 0;
-    while d < LAST {
-        numbers[d] = numbers[d + 1];
-        d += 1;
-    }
+    numbers.copy_within(1.., 0);
     numbers[LAST] = 0;
 }
 
@@ -36,7 +34,7 @@ fn roll_rubles(rubles: &mut [i64])
     requires { RubleRanges rubles.old }
     ensures { rubles.new ≡ rolled_rubles rubles.old }
 {
-    rubles[0] = rubles[0] + rubles[NETS];
+    rubles[0] += rubles[NETS];
     day_later(&mut rubles[NETS..NETS_END]);
 }
 
@@ -50,17 +48,15 @@ fn roll_holding(holding: &mut [i64])
     day_later(&mut holding[OBLIGATIONS..HOLDING_LENGTH]);
 }
 
-// Roll a block: rubles and holdings.
+// Roll a block: rubles and holdings. Each holding is cut out by its place: after `chunks_exact_mut` a proof knows nothing of the numbers.
 pub(crate) fn roll(block: &mut [i64])
     requires { Bounded block.old }
     ensures { block.new ≡ rolled block.old }
 {
     roll_rubles(&mut block[in_block::RUBLE_COLLATERAL..in_block::RUBLES_END]);
-    let mut a = 0;
-    while a < ASSET_COUNT {
+    for a in 0..ASSET_COUNT {
         let at = HOLDINGS + HOLDING_LENGTH * a;
         roll_holding(&mut block[at..at + HOLDING_LENGTH]);
-        a += 1;
     }
 }
 
@@ -77,7 +73,7 @@ fn rubles_fit(rubles: &[i64]) -> bool
 }
 
 // Whether an asset's collateral stays in its bounds.
-fn holding_fits(holding: &[i64]) -> bool
+fn holding_fits(holding: &Holding) -> bool
     requires { HoldingRanges holding.now }
     ensures { result ≡ collateral_right (number (rolled_holding holding.now) 0) }
 {
@@ -89,20 +85,10 @@ fn holding_fits(holding: &[i64]) -> bool
 }
 
 // Whether every number stays in its bounds: only the seventeen sums could leave them.
-pub fn roll_fits(block: &[i64]) -> bool
+pub fn roll_fits(block: &Block) -> bool
     requires { Bounded block.now }
     ensures { result ≡ in_bounds (rolled block.now) }
 {
-    if !rubles_fit(&block[in_block::RUBLE_COLLATERAL..in_block::RUBLES_END]) {
-        return false;
-    }
-    let mut a = 0;
-    while a < ASSET_COUNT {
-        let at = HOLDINGS + HOLDING_LENGTH * a;
-        if !holding_fits(&block[at..at + HOLDING_LENGTH]) {
-            return false;
-        }
-        a += 1;
-    }
-    true
+    rubles_fit(&block[in_block::RUBLE_COLLATERAL..in_block::RUBLES_END])
+        && (0..ASSET_COUNT).all(|a| holding_fits(holding_of(block, a)))
 }

@@ -1,73 +1,40 @@
-ghost use Rattle.std.specs.Prelude.{◌≡◌, ◌&&◌, map, ◌<◌, length};
+ghost use Rattle.std.specs.Prelude.{◌≡◌, Bool, ◌&&◌, map, ℕ, ◌<◌};
 ghost use Rattle.whole.specs.Bounds.{between};
-ghost use Rattle.whole.specs.Marks.{all_true, all_zero, every};
-ghost use Rattle.book.specs.Block.{block_length, holding_length, ruble_numbers};
-ghost use Rattle.book.specs.Rules.{rubles_right, head_marks, holding_right, holding_right_at, in_bounds, good_block, listed_if_held, holds_listed};
+ghost use Rattle.whole.specs.Marks.{all_true, all_zero};
+ghost use Rattle.book.specs.Asked.{Tells};
+ghost use Rattle.book.specs.Block.{ruble_numbers};
+ghost use Rattle.book.specs.Rules.{rubles_right, head_marks, holding_right, holding_right_at, good_block, stands, listed_if_held, holds_listed};
 
 use crate::in_block;
-use crate::in_block::{HOLDING_LENGTH, HOLDINGS};
+use crate::in_block::{Block, Holding, holding_of};
 use rates::units::ASSET_COUNT;
 
 // The block rules (document 01, "Block").
 
-// A block in parts, of which only zeros are asked.
-const PARTS: usize = 9;
-
-const PART: usize = in_block::LENGTH / PARTS;
+// The numbers of a part of a block, of which only zeros are asked; a block is nine of them.
+const PART: usize = 32;
 
 // Whether every number lies from low to high.
 fn all_between(numbers: &[i64], low: i64, high: i64) -> bool
     ensures { result ≡ all_true (map (λ x. between low x high) numbers.now) }
 {
-    let mut k = 0;
-    while k < numbers.len() {
-        if !whole::number_between(numbers, k, low, high) {
-            return false;
-        }
-        k += 1;
-    }
-    true
+    numbers.iter().all(|x| whole::lies_between(low, *x, high))
 }
 
 // Whether an asset's 17 numbers keep their bounds.
-fn holding_right(holding: &[i64]) -> bool
-    requires { length holding.now ≡ holding_length }
+fn holding_right(holding: &Holding) -> bool
     ensures { result ≡ holding_right holding.now }
 {
-    if !whole::number_between(
+    whole::number_between(
         holding,
         in_block::COLLATERAL,
         -in_block::MOST_UNITS,
         in_block::MOST_UNITS,
-    ) {
-        return false;
-    }
-    all_between(
-        &holding[in_block::CLAIMS..HOLDING_LENGTH],
-        0,
-        in_block::MOST_UNITS,
-    )
-}
-
-// Whether the sixteen holdings keep their bounds.
-fn holdings_right(block: &[i64]) -> bool
-    requires { length block.now ≡ block_length }
-    ensures { result ≡ every 16 (holding_right_at block.now) }
-{
-    let mut a = 0;
-    while a < ASSET_COUNT {
-        let at = HOLDINGS + HOLDING_LENGTH * a;
-        if !holding_right(&block[at..at + HOLDING_LENGTH]) {
-            return false;
-        }
-        a += 1;
-    }
-    true
+    ) && all_between(&holding[in_block::CLAIMS..], 0, in_block::MOST_UNITS)
 }
 
 // Whether ruble collateral and ruble nets keep their bounds.
-fn rubles_right(block: &[i64]) -> bool
-    requires { length block.now ≡ block_length }
+fn rubles_right(block: &Block) -> bool
     ensures { result ≡ all_true (map rubles_right (ruble_numbers block.now)) }
 {
     all_between(
@@ -77,20 +44,8 @@ fn rubles_right(block: &[i64]) -> bool
     )
 }
 
-// Whether rubles and holdings keep their bounds.
-fn in_bounds(block: &[i64]) -> bool
-    requires { length block.now ≡ block_length }
-    ensures { result ≡ in_bounds block.now }
-{
-    if !rubles_right(block) {
-        return false;
-    }
-    holdings_right(block)
-}
-
 // Whether the head of an open block is right: its kind, its settlement code, and nothing else at 10 to 15.
-fn head_right(block: &[i64]) -> bool
-    requires { length block.now ≡ block_length }
+fn head_right(block: &Block) -> bool
     ensures { result ≡ all_true (head_marks block.now) }
 {
     whole::number_between(
@@ -112,92 +67,53 @@ fn head_right(block: &[i64]) -> bool
 }
 
 // Whether a block is all zero. It is looked at part by part, since the compiler takes the numbers of a part of a written length several together.
-pub fn is_empty(block: &[i64]) -> bool
-    requires { length block.now ≡ block_length }
+pub fn is_empty(block: &Block) -> bool
     ensures { result ≡ all_zero block.now }
 {
-    let mut k = 0;
-    while k < PARTS {
-        if !whole::all_zero(&block[PART * k..PART * k + PART]) {
-            return false;
-        }
-        k += 1;
+    let (parts, _) = block.as_chunks::<PART>();
+    parts.iter().all(|part| whole::all_zero(part))
+}
+
+// Whether a block is all zero where it is not open, and else has its head and rubles right and a holding that passes in every asset.
+fn block_passing<F: Fn(usize) -> bool>(block: &Block, passes: F) -> bool
+    requires { (a : ℕ) → a < 16 → F.pre passes a }
+    ensures { (test : ℕ → Bool) → Tells F.Fn passes test → result ≡ stands block.now test }
+{
+    if whole::number_is(block, in_block::ACCOUNT_KIND, 0) {
+        return is_empty(block);
     }
-    true
+    head_right(block) && rubles_right(block) && (0..ASSET_COUNT).all(passes)
 }
 
 // Whether a block keeps the block rules.
-pub fn block_right(block: &[i64]) -> bool
-    requires { length block.now ≡ block_length }
+pub fn block_right(block: &Block) -> bool
     ensures { result ≡ good_block block.now }
 {
-    if whole::number_is(block, in_block::ACCOUNT_KIND, 0) {
-        return is_empty(block);
-    }
-    if !head_right(block) {
-        return false;
-    }
-    in_bounds(block)
+    block_passing(block, |a| holding_right(holding_of(block, a)))
 }
 
 // Whether every asset of which something is held is listed.
-pub fn holds_listed(block: &[i64], clearing: &[i64]) -> bool
-    requires { length block.now ≡ block_length }
+pub fn holds_listed(block: &Block, clearing: &[i64]) -> bool
     ensures { result ≡ holds_listed block.now clearing.now }
 {
-    let mut a = 0;
-    while a < ASSET_COUNT {
-        let at = HOLDINGS + HOLDING_LENGTH * a;
-        if !rates::is_listed(clearing, a) {
-            if !whole::all_zero(&block[at..at + HOLDING_LENGTH]) {
-                return false;
-            }
-        }
-        a += 1;
-    }
-    true
+    (0..ASSET_COUNT).all(|a| rates::is_listed(clearing, a) || whole::all_zero(holding_of(block, a)))
 }
 
 // Whether asset a's numbers keep their bounds, and are zero where it is unlisted: zeros keep every bound, so of an unlisted asset that alone is asked.
-fn holding_stands(block: &[i64], clearing: &[i64], a: usize) -> bool
-    requires { (length block.now ≡ block_length) × (a < 16) }
+fn holding_stands(block: &Block, clearing: &[i64], a: usize) -> bool
+    requires { a < 16 }
     ensures { result ≡ holding_right_at block.now a && listed_if_held block.now clearing.now a }
 {
-    let at = HOLDINGS + HOLDING_LENGTH * a;
+    let holding = holding_of(block, a);
     if rates::is_listed(clearing, a) {
-        return holding_right(&block[at..at + HOLDING_LENGTH]);
+        return holding_right(holding);
     }
-    whole::all_zero(&block[at..at + HOLDING_LENGTH])
-}
-
-// The same of the sixteen assets.
-fn holdings_stand(block: &[i64], clearing: &[i64]) -> bool
-    requires { length block.now ≡ block_length }
-    ensures { result ≡ every 16 (holding_right_at block.now) && holds_listed block.now clearing.now }
-{
-    let mut a = 0;
-    while a < ASSET_COUNT {
-        if !holding_stands(block, clearing, a) {
-            return false;
-        }
-        a += 1;
-    }
-    true
+    whole::all_zero(holding)
 }
 
 // Whether a block keeps the block rules and every asset of which something is held is listed, by one look at each holding.
-pub fn block_stands(block: &[i64], clearing: &[i64]) -> bool
-    requires { length block.now ≡ block_length }
+pub fn block_stands(block: &Block, clearing: &[i64]) -> bool
     ensures { result ≡ good_block block.now && holds_listed block.now clearing.now }
 {
-    if whole::number_is(block, in_block::ACCOUNT_KIND, 0) {
-        return is_empty(block);
-    }
-    if !head_right(block) {
-        return false;
-    }
-    if !rubles_right(block) {
-        return false;
-    }
-    holdings_stand(block, clearing)
+    block_passing(block, |a| holding_stands(block, clearing, a))
 }

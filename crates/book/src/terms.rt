@@ -4,12 +4,13 @@ ghost use Rattle.book.specs.Ranges.{TermsRanges};
 
 use crate::changes::Trade;
 use crate::in_block;
+use rates::units;
 
 // The numbers that an order or a move may name (document 01, codes 7 and 8), asked of the numbers alone; whether an asset is listed the
 // tables say.
 
 // What an order names, as it came: side 0 buys, side 1 sells.
-#[derive(Clone, Copy)]
+#[derive(Clone, Copy, Debug, PartialEq, Eq)]
 pub struct Terms {
     pub asset: i64,
     pub date: i64,
@@ -18,9 +19,9 @@ pub struct Terms {
     pub money: i64,
 }
 
-const LAST_ASSET: i64 = 15;
+const LAST_ASSET: i64 = units::ASSET_COUNT as i64 - 1;
 
-const LAST_DATE: i64 = 7;
+const LAST_DATE: i64 = units::DATE_COUNT as i64 - 1;
 
 const LAST_SIDE: i64 = 1;
 
@@ -50,7 +51,7 @@ pub fn amounts_right(o: Terms) -> bool
         & whole::lies_between(0, o.money, in_block::MOST_RUBLES)
 }
 
-// The trade that an order names.
+// The trade that an order names. It asks for numbers in range, which a `From` could not.
 pub fn trade_of(o: Terms) -> Trade
     requires { TermsRanges o }
     ensures { result ≡ trade_of o }

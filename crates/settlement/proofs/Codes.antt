@@ -1,5 +1,5 @@
 -- Laws of who is on a code as it is worked out, of how many they are, of what is asked of each, and of the loop that asks. Assumes nothing.
-use mathlib.Core.Path.{◌≡◌, refl, sym, ap, ap₂, ◌∙◌}
+use mathlib.Core.Path.{◌≡◌, refl, sym, ap, ap₂, ◌∙◌, subst}
 use mathlib.Core.Logic.{⊎_elim}
 use mathlib.Core.Bool.{Bool, true, false, not, cond, ◌&&◌, ◌||◌, and_assoc, and_comm}
 use mathlib.Core.List.{List}
@@ -8,15 +8,17 @@ use native.Mathlib.Nat.{eq-or-lt_of_le}
 use native.Mathlib.Numerals.{add-one}
 use native.Mathlib.Omega.{arith}
 use lib.Dec.{eqb, leb}
+use Rattle.std.proofs.Common.{Option, Some, None}
+use Rattle.std.specs.Option.{is_some, MatchOption}
 use lib.IntN.{ℤ}
 use borrow.Author.Tests.{eq-eqb, ne_eqb}
 use Rattle.whole.specs.Bounds.{equal, is_zero}
 use Rattle.whole.specs.Marks.{every}
-use Rattle.whole.proofs.Every.{every_at, every_by, every_out, every_none, every_next, every_done, every_but, every_same}
-use Rattle.whole.proofs.Tests.{first_out, and_then, where_so, where_not}
+use Rattle.whole.proofs.Every.{every_at, every_by, every_out, every_none, every_next, every_but, every_same}
+use Rattle.whole.proofs.Tests.{where_so, where_not}
 use Rattle.book.specs.Block.{block_of, settlement_code}
 use Rattle.book.proofs.Holdings.{every_both}
-use Rattle.settlement.specs.Code.{on_code, count_on, where_on, every_on}
+use Rattle.settlement.specs.Code.{on_code, count_on, where_on, every_on, passing}
 
 -- ---- the three ways to an answer: the account itself, an account on no code, and number 13 of both
 module _ (book : List ℤ) (i j : ℕ) where
@@ -116,33 +118,37 @@ each_both on f g = every_same (where_on on (λ j. f j && g j)) (λ j. where_on o
     asked true a b = refl
     asked false a b = refl
 
+-- ---- where each account on a code passes, that it does, and how many they are
+pub passing_some : (on test : ℕ → Bool) → is_some (passing on test) ≡ every_on on test
+unfolding passing
+passing_some on test = elim (every_on on test) as (λ t. is_some (cond t (Some (count_on on 16)) None) ≡ t) [ true ↦ refl | false ↦ refl ]
+
+pub passing_few : (on test : ℕ → Bool) {o : Option ℕ} {r : Bool} (Q : ℕ → Type 0) → o ≡ passing on test → MatchOption o (r ≡ false) Q
+    → ((n : ℕ) → Q n → r ≡ leb n 4) → r ≡ every_on on test && leb (count_on on 16) 4
+unfolding passing
+passing_few on test {o} {r} Q e said few = told (every_on on test) (subst (λ (p : Option ℕ). MatchOption p (r ≡ false) Q) e said)
+  where
+    told : (t : Bool) → MatchOption (cond t (Some (count_on on 16)) None) (r ≡ false) Q → r ≡ t && leb (count_on on 16) 4
+    told true h = few _ h
+    told false h = h
+
 -- ---- a loop that asks each account on a code and counts them: where it stands before account j, and what it answers
 pub record Looked (on test : ℕ → Bool) (count j : ℕ) : Type 0 where
-  pub inside : j ≤ 16
-  pub fewer : count ≤ j
   pub counted : count ≡ count_on on j
   pub passed : every j (where_on on test) ≡ true
 
-abbrev answer : (ℕ → Bool) → (ℕ → Bool) → Bool
-answer on test = every_on on test && leb (count_on on 16) 4
-
 module _ {on test : ℕ → Bool} where
   pub none_looked : Looked on test 0 0
-  none_looked = record { inside = omega arith; fewer = omega arith; counted = sym (count_none on); passed = every_none (where_on on test) }
+  none_looked = record { counted = sym (count_none on); passed = every_none (where_on on test) }
 
-  pub all_looked : {count j : ℕ} → Looked on test count j → 16 ≤ j → leb count 4 ≡ answer on test
-  unfolding every_on
-  all_looked {count} {j} p h =
-      let done : j ≡ 16 = omega (arith, p.inside) in
-      and_then (every 16 (where_on on test)) _ (sym (every_done (where_on on test) p.passed done))
-      (ap (λ (n : ℕ). leb n 4) (p.counted ∙ ap (count_on on) done))
+  pub all_looked : {count : ℕ} → Looked on test count 16 → Some count ≡ passing on test
+  unfolding every_on passing
+  all_looked {count} p = rw p.passed (ap Some p.counted)
 
-  module _ {count j : ℕ} (p : Looked on test count j) (l : j < 16) where
+  module _ {count j : ℕ} (p : Looked on test count j) where
     -- one that is not on the code is passed by
     pub off_looked : on j ≡ false → Looked on test count (j + 1)
     off_looked e = record {
-      inside = omega arith;
-      fewer = omega (arith, p.fewer);
       counted = p.counted ∙ sym (count_passed on j e) ∙ ap (count_on on) (sym (add-one j));
       passed = every_next (where_on on test) j p.passed (sym (where_not (on j) (test j) e));
     }
@@ -150,12 +156,10 @@ module _ {on test : ℕ → Bool} where
     -- one that is on it passes the test, or ends the loop
     pub on_looked : on j ≡ true → test j ≡ true → Looked on test (count + 1) (j + 1)
     on_looked e f = record {
-      inside = omega arith;
-      fewer = omega (arith, p.fewer);
       counted = ap (λ (n : ℕ). n + 1) p.counted ∙ sym (count_joined on j e) ∙ ap (count_on on) (sym (add-one j));
       passed = every_next (where_on on test) j p.passed (sym (where_so (on j) (test j) e) ∙ f);
     }
 
-    pub out_looked : on j ≡ true → test j ≡ false → false ≡ answer on test
-    unfolding every_on
-    out_looked e f = sym (first_out _ _ (every_out (where_on on test) 16 j l (sym (where_so (on j) (test j) e) ∙ f)))
+    pub out_looked : j < 16 → on j ≡ true → test j ≡ false → None ≡ passing on test
+    unfolding every_on passing
+    out_looked l e f = rw (every_out (where_on on test) 16 j l (sym (where_so (on j) (test j) e) ∙ f)) refl

@@ -1,7 +1,7 @@
 -- Clause 4.11, #104: several trade accounts under one settlement code. Number 13 of a block is its code; 0 is no code and is never shared. An account is
 -- on its own code, with every other block whose number 13 is the same, open or not.
 -- Assumes nothing.
-use Rattle.std.specs.Prelude.{Bool, not, cond, ◌&&◌, ◌||◌, List, ℕ, zero, suc, ◌+◌, eqb, leb, ℤ}
+use Rattle.std.specs.Prelude.{Bool, not, cond, ◌&&◌, ◌||◌, List, ℕ, zero, suc, ◌+◌, eqb, leb, ℤ, Option, Some, None}
 use Rattle.whole.specs.Bounds.{equal, is_zero}
 use Rattle.whole.specs.Marks.{every}
 use Rattle.book.specs.Block.{accounts, block_of, account_kind, settlement_code}
@@ -23,6 +23,10 @@ where_on on test j = not (on j) || test j
 
 unfoldable pub every_on : (ℕ → Bool) → (ℕ → Bool) → Bool
 every_on on test = every accounts (where_on on test)
+
+-- how many are on a code, where each account on it passes a test
+unfoldable pub passing : (ℕ → Bool) → (ℕ → Bool) → Option ℕ
+passing on test = cond (every_on on test) (Some (count_on on accounts)) None
 
 -- a block that keeps the block rules and has the account's kind
 unfoldable pub member_right : List ℤ → ℕ → ℕ → Bool

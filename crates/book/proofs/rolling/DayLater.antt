@@ -1,47 +1,21 @@
 -- Laws of a day's step in place: the eight numbers by date, and the stretches of a block that hold them. Assumes nothing.
-use mathlib.Core.Path.{◌≡◌, sym, ap, ap₂, ◌∙◌, subst}
+use mathlib.Core.Path.{◌≡◌, ap, ap₂, ◌∙◌}
 use mathlib.Core.List.{List, [], ◌∷◌, ◌++◌, append-nil}
-use Prim.Native.Nat.{ℕ, suc, ◌+◌, ◌≤◌, ◌<◌}
-use native.Mathlib.Numerals.{add-one}
+use Prim.Native.Nat.{ℕ, suc}
 use native.Mathlib.Omega.{arith}
 use lib.IntN.{ℤ, pos, ◌+ℤ◌, ◌-ℤ◌}
 use lib.ListN.{length, take, drop, set, length-append, length-drop, drop_of_length-le}
-use lib.Seq.{length-take-le, take_all, take-suc, drop-cons, append_snoc, get_or-append-add, get_or-drop, set_at, take_at, drop_at}
+use lib.Seq.{paste, length-take-le, take_all, drop-cons, set_at, take_at, drop_at}
 use Rattle.whole.specs.Parts.{part, number}
 use Rattle.book.specs.Roll.{day_later, rolled_rubles, rolled_holding}
 
--- ---- the first d numbers stepped on, the others as they were
-abbrev pub stepped : ℕ → List ℤ → List ℤ
-stepped d xs = take d (drop 1 xs) ++ drop d xs
-
-module _ (xs : List ℤ) (d : ℕ) (l : d + 1 ≤ length xs) where
-  front : length (take d (drop 1 xs)) ≡ d
-  front = length-take-le d (drop 1 xs) (omega (arith, length-drop 1 xs))
-
-  pub stepped_ahead : number (stepped d xs) (d + 1) ≡ number xs (d + 1)
-  stepped_ahead =
-      subst (λ (k : ℕ). number (stepped d xs) (k + 1) ≡ number xs (d + 1)) front
-      (get_or-append-add (take d (drop 1 xs)) (drop d xs) 1 (pos 0) ∙ get_or-drop d xs 1 (pos 0))
-
-  stored : (x : ℤ) → set (stepped d xs) d x ≡ take d (drop 1 xs) ++ x ∷ drop (suc d) xs
-  stored x =
-      ap (λ (r : List ℤ). set (take d (drop 1 xs) ++ r) d x) (drop-cons xs d (pos 0) (omega arith))
-      ∙ set_at (take d (drop 1 xs)) (number xs d) (drop (suc d) xs) x d front
-
-  pub stepped_on : d + 1 < length xs → set (stepped d xs) d (number xs (d + 1)) ≡ stepped (d + 1) xs
-  stepped_on h =
-      stored (number xs (d + 1))
-      ∙ sym (append_snoc (take d (drop 1 xs)) (number xs (d + 1)) (drop (suc d) xs))
-      ∙ ap (λ (r : List ℤ). r ++ drop (suc d) xs)
-      (ap (λ (x : ℤ). take d (drop 1 xs) ++ (x ∷ [])) (ap (number xs) (let e : d + 1 ≡ 1 + d = omega arith in e) ∙ sym (get_or-drop 1 xs d (pos 0)))
-      ∙ sym (take-suc (drop 1 xs) d (pos 0) (omega (arith, length-drop 1 xs))))
-      ∙ ap (λ (k : ℕ). stepped k xs) (sym (add-one d))
-
-  pub stepped_end : length xs ≡ suc d → set (stepped d xs) d (pos 0) ≡ day_later xs
-  unfolding day_later
-  stepped_end e =
-      stored (pos 0)
-      ∙ ap₂ (λ (p r : List ℤ). p ++ pos 0 ∷ r) (take_all d (drop 1 xs) (omega (arith, length-drop 1 xs))) (drop_of_length-le xs {i = suc d} (omega arith))
+-- ---- eight numbers by date: each takes the next one's place, as code copies them, and the last is then 0
+pub stepped_on : (xs : List ℤ) → length xs ≡ 8 → set (paste xs 0 (drop 1 xs) 7) 7 (pos 0) ≡ day_later xs
+unfolding day_later
+stepped_on xs long =
+    ap (λ (r : List ℤ). set (take 7 (drop 1 xs) ++ r) 7 (pos 0)) (drop-cons xs 7 (pos 0) (omega arith))
+    ∙ set_at (take 7 (drop 1 xs)) (number xs 7) (drop 8 xs) (pos 0) 7 (length-take-le 7 (drop 1 xs) (omega (arith, length-drop 1 xs)))
+    ∙ ap₂ (λ (p r : List ℤ). p ++ pos 0 ∷ r) (take_all 7 (drop 1 xs) (omega (arith, length-drop 1 xs))) (drop_of_length-le xs {i = 8} (omega arith))
 
 pub later_length : (xs : List ℤ) (n : ℕ) → length xs ≡ suc n → length (day_later xs) ≡ suc n
 unfolding day_later

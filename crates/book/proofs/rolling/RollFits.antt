@@ -1,15 +1,15 @@
 -- Laws of a rolled block's bounds: of a block in bounds only the seventeen sums can leave them. Assumes nothing.
-use mathlib.Core.Path.{◌≡◌, sym, ap, ◌∙◌}
-use mathlib.Core.Bool.{Bool, true, false, ◌&&◌}
+use mathlib.Core.Path.{◌≡◌, sym, ap, ap₂, ◌∙◌}
+use mathlib.Core.Bool.{Bool, true, ◌&&◌}
 use mathlib.Core.List.{List, [], ◌∷◌}
-use Prim.Native.Nat.{ℕ, ◌+◌, ◌<◌}
+use Prim.Native.Nat.{ℕ, ◌<◌}
 use lib.IntN.{ℤ, pos}
 use lib.ListN.{length, drop, take}
 use lib.Seq.{drop-drop}
 use Rattle.whole.specs.Marks.{all_true, every}
 use Rattle.whole.specs.Parts.{part, number}
-use Rattle.whole.proofs.Tests.{both, first_out, second_out}
-use Rattle.whole.proofs.Every.{every_out, every_next}
+use Rattle.whole.proofs.Tests.{both}
+use Rattle.whole.proofs.Every.{every_same}
 use Rattle.book.specs.Block.{ruble_numbers, holding_of}
 use Rattle.book.specs.Rules.{rubles_right, collateral_right, quantity_right, holding_right, in_bounds, holding_right_at}
 use Rattle.book.specs.Roll.{day_later, rolled_rubles, rolled_holding, rolled}
@@ -59,17 +59,7 @@ module _ (block : List ℤ) (long : length block ≡ 288) (right : in_bounds blo
       ap holding_right (rolled_holding_lem block long a l)
       ∙ holding_comes_to (holding_of block a) (quantities_right (holding_of block a) (holding_length_lem block long a l) (holding_right_at_lem block long right a l))
 
-  pub rubles_out : rubles_fit block ≡ false → in_bounds (rolled block) ≡ false
+  -- each of its numbers that could leave its bounds is one of them
+  pub rolled_in_bounds : in_bounds (rolled block) ≡ rubles_fit block && every 16 (holding_fits block)
   unfolding in_bounds
-  rubles_out e = first_out _ _ (rubles_then ∙ e)
-
-  pub holding_out : (a : ℕ) → a < 16 → holding_fits block a ≡ false → in_bounds (rolled block) ≡ false
-  unfolding in_bounds
-  holding_out a l e = second_out (all rubles_right (ruble_numbers (rolled block))) _ (every_out (holding_right_at (rolled block)) 16 a l (holding_then a l ∙ e))
-
-  pub holding_next : (a : ℕ) → a < 16 → every a (holding_right_at (rolled block)) ≡ true → holding_fits block a ≡ true → every (a + 1) (holding_right_at (rolled block)) ≡ true
-  holding_next a l e f = every_next (holding_right_at (rolled block)) a e (holding_then a l ∙ f)
-
-  pub all_fit : rubles_fit block ≡ true → every 16 (holding_right_at (rolled block)) ≡ true → in_bounds (rolled block) ≡ true
-  unfolding in_bounds
-  all_fit e f = both _ _ (rubles_then ∙ e) f
+  rolled_in_bounds = ap₂ ◌&&◌ rubles_then (every_same (holding_right_at (rolled block)) (holding_fits block) 16 holding_then)

@@ -10,7 +10,5 @@ alone-requires c = own_in_range _ _ c.requires
 
 pub returns-then-on_no_code : goal.returns-then-on_no_code
 returns-then-on_no_code c =
-    let t = c.before in
-    let s = t.before.before in
     c.alone.ensures
-    ∙ sym (alone_in_list s.args.book.now s.args.i s.requires.below (no_code_unshared _ _ (passed t.on_no_code.ensures t.if-on_no_code.true)))
+    ∙ sym (alone_in_list c.args.book.now c.args.i c.requires.below (no_code_unshared _ _ (passed c.on_no_code.ensures c.if-on_no_code.true)))

@@ -15,7 +15,7 @@ returns-then-t-eq0 c =
     let e = negated c.requires.money_within ∙ sym (money_buy c.args.t c.if-t-eq0.true) in
     (e, subst (λ (z : ℤ). z within large) (sym e) (money_within c.requires))
 
-pub returns : goal.returns
-returns c =
+pub returns-else-t-eq0 : goal.returns-else-t-eq0
+returns-else-t-eq0 c =
     let e = to_z-of_z c.requires.money_within.fits ∙ sym (money_sell c.args.t c.if-t-eq0.false) in
     (e, subst (λ (z : ℤ). z within large) (sym e) (money_within c.requires))

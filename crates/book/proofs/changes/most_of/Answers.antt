@@ -8,6 +8,6 @@ pub returns-then-asset-eq-RUBLES : goal.returns-then-asset-eq-RUBLES
 unfolding most_of
 returns-then-asset-eq-RUBLES c = (simp (eq-eqb _ 255 c.if-asset-eq-RUBLES.true), record { low = omega ints; high = omega ints; fits = omega ints })
 
-pub returns : goal.returns
+pub returns-else-asset-eq-RUBLES : goal.returns-else-asset-eq-RUBLES
 unfolding most_of
-returns c = (simp (ne_eqb _ 255 c.if-asset-eq-RUBLES.false), record { low = omega ints; high = omega ints; fits = omega ints })
+returns-else-asset-eq-RUBLES c = (simp (ne_eqb _ 255 c.if-asset-eq-RUBLES.false), record { low = omega ints; high = omega ints; fits = omega ints })

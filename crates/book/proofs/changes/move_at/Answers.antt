@@ -21,6 +21,6 @@ overflow_mul-result c = let l = an_asset c in search rules
 pub overflow_add-result : goal.overflow_add-result
 overflow_add-result c = let l = an_asset c in search rules
 
-pub returns : goal.returns
+pub returns-else-asset-eq-RUBLES : goal.returns-else-asset-eq-RUBLES
 unfolding move_at
-returns c = let l = an_asset c in (simp (ne_eqb _ 255 c.if-asset-eq-RUBLES.false), omega arith)
+returns-else-asset-eq-RUBLES c = let l = an_asset c in (simp (ne_eqb _ 255 c.if-asset-eq-RUBLES.false), omega arith)

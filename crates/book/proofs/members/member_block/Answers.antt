@@ -6,7 +6,7 @@ use Rattle.book.specs.Block.{block_of}
 use Rattle.book.proofs.members.member_block.Goals as goal
 
 pub place_of-j-requires : goal.place_of-j-requires
-place_of-j-requires c = let few = c.requires.0.few in (c.requires.0.room, omega arith)
+place_of-j-requires c = let few = c.requires.0.few in omega arith
 
 pub block_of-requires : goal.block_of-requires
 block_of-requires c =

@@ -11,14 +11,14 @@ use Rattle.book.proofs.rolling.roll.Goals.{At-loop-a}
 
 -- the block at the loop's test, from the block that was found
 so_far : (c : At-loop-a) → c.loop-a.block ≡ rolled_to c.loop-a.a c.args.block.now
-so_far c = c.loop-a.invariant.2 c.args.block.now c.requires.long (to_begin c.args.block.now c.requires.long _ c.roll_rubles.ensures)
+so_far c = c.loop-a.invariant.1 c.args.block.now c.requires.long (to_begin c.args.block.now c.requires.long _ c.roll_rubles.ensures)
 
 pub roll_rubles-requires : goal.roll_rubles-requires
 unfolding part
 roll_rubles-requires c = let p = c.requires in ruble_ranges _ p.long p.in_bounds
 
 pub loop-a-init : goal.loop-a-init
-loop-a-init c = (c.block-1.given.1 ∙ c.requires.long, omega arith, λ found long e. e)
+loop-a-init c = (c.block-1.given.1 ∙ c.requires.long, λ found long e. e)
 
 pub roll_holding-requires : goal.roll_holding-requires
 roll_holding-requires c =
@@ -30,8 +30,7 @@ pub loop-a-preserved : goal.loop-a-preserved
 loop-a-preserved c =
     let l = c.loop-a in (
       c.block-in-loop-a-1.given.1 ∙ l.invariant.0,
-      omega arith,
-      λ found long e. to_next found long l.a (omega arith) l.block (l.invariant.2 found long e) _ c.roll_holding.ensures,
+      λ found long e. to_next found long l.a (omega arith) l.block (l.invariant.1 found long e) _ c.roll_holding.ensures,
     )
 
 pub shape_of-block : goal.shape_of-block
