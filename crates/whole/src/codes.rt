@@ -47,39 +47,3 @@ pub fn code(answer: Result<(), Refusal>) -> u8
         Err(refusal) => u8::from(refusal),
     }
 }
-
-pub const DONE: u8 = 0;
-
-// A lent length is wrong.
-pub const WRONG_LENGTH: u8 = 1;
-
-// The table check finds a broken number.
-pub const BROKEN_NUMBER: u8 = 2;
-
-// The account number is not 0 to 15.
-pub const NO_ACCOUNT: u8 = 3;
-
-pub const NOT_OPEN: u8 = 4;
-
-pub const ALREADY_OPEN: u8 = 5;
-
-// The block or another on its settlement code breaks the block rules or holds something of an unlisted asset, or they are too many or of two kinds.
-pub const BROKEN_BLOCK: u8 = 6;
-
-// An asset, a date, a side or a kind that there is not, or a settlement code that cannot be opened on.
-pub const WRONG_CHOICE: u8 = 7;
-
-// A quantity, a sum of money or a move outside its bounds.
-pub const WRONG_AMOUNT: u8 = 8;
-
-// A number would leave its bounds, a withdrawal would leave collateral below 0, or a figure is too great for the app's floats.
-pub const OUT_OF_BOUNDS: u8 = 9;
-
-// The limit after an order or a withdrawal would be negative.
-pub const NEGATIVE_LIMIT: u8 = 10;
-
-// A session line of no form.
-pub const MALFORMED: u8 = 12;
-
-// The table check finds an own row that is laxer than its clearing row.
-pub const LAXER_OWN_ROW: u8 = 13;
