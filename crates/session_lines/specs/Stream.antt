@@ -95,8 +95,11 @@ empty s out = record { used = 0; stream = s; out = record { bytes = out; at = 0 
 abbrev pub line_held : Line → Begun
 line_held line = held line.bytes line.count
 
+abbrev pub memory_of : Session → Memory
+memory_of s = record { state = state s.book; parameters = s.parameters }
+
 abbrev pub stream_of : Session → Stream
-stream_of s = record { line = line_held s.line; memory = record { state = state s.book; parameters = s.parameters } }
+stream_of s = record { line = line_held s.line; memory = memory_of s }
 
 abbrev pub fed_in : ℕ → Session → Answers → Fed
 fed_in used s answers = record { used = used; stream = stream_of s; out = written_in answers }

@@ -2,10 +2,11 @@ ghost use Rattle.std.specs.Prelude.{◌≡◌, []};
 ghost use Rattle.whole.specs.Codes.{answer_code};
 ghost use Rattle.frames.specs.Answer.{answer_line, Wrote};
 ghost use Rattle.engine.specs.Report.{reported_as};
-ghost use Rattle.session_lines.specs.Session.{memory_found, memory_left, report_line, answered};
+ghost use Rattle.session_lines.specs.Session.{report_line, answered};
+ghost use Rattle.session_lines.specs.Stream.{memory_of};
 
 use crate::calls;
-use crate::sizes::PARAMETERS;
+use crate::stream::Session;
 use figures::Figures;
 use frames::{Answers, Frame};
 use whole::Refusal;
@@ -38,31 +39,37 @@ fn put_report(answers: &mut Answers<'_>, answer: Result<Figures, Refusal>)
     }
 }
 
-// What a frame leaves in the book and the parameters, and the line of its answer.
-#[tactic(auto, unfolding(crate::specs::Session::answered))]
-pub(crate) fn answer(
-    book: &mut [i64],
-    parameters: &mut [i64; PARAMETERS],
-    frame: Frame,
-    answers: &mut Answers<'_>,
-)
-    ensures kept { memory_left book parameters ≡ (answered (memory_found book parameters) frame).memory }
-    ensures said { Wrote answers.old answers.new (answered (memory_found book parameters) frame).line }
-{
-    match frame {
-        Frame::Parameter { place, number } => put_code(
-            answers,
-            calls::set_parameter(parameters, place, number),
-        ),
-        Frame::Open {
-            account,
-            kind,
-            code,
-        } => put_code(answers, calls::open(book, account, kind, code)),
-        Frame::Move(line) => put_code(answers, calls::move_collateral(book, parameters, line)),
-        Frame::Order(line) => put_code(answers, calls::order(book, parameters, line)),
-        Frame::Roll { account } => put_code(answers, calls::roll(book, account)),
-        Frame::Report { account } => put_report(answers, calls::report(book, parameters, account)),
-        Frame::Malformed => put_code(answers, Err(Refusal::Malformed)),
+impl Session {
+    // What a frame leaves in memory, and the line of its answer.
+    #[tactic(auto, unfolding(crate::specs::Session::answered))]
+    pub(crate) fn answer(&mut self, frame: Frame, answers: &mut Answers<'_>)
+        ensures kept { memory_of self.new ≡ (answered (memory_of self.old) frame).memory }
+        ensures said { Wrote answers.old answers.new (answered (memory_of self.old) frame).line }
+    {
+        match frame {
+            Frame::Parameter { place, number } => put_code(
+                answers,
+                calls::set_parameter(&mut self.parameters, place, number),
+            ),
+            Frame::Open {
+                account,
+                kind,
+                code,
+            } => put_code(answers, calls::open(&mut self.book, account, kind, code)),
+            Frame::Move(line) => put_code(
+                answers,
+                calls::move_collateral(&mut self.book, &self.parameters, line),
+            ),
+            Frame::Order(line) => put_code(
+                answers,
+                calls::order(&mut self.book, &self.parameters, line),
+            ),
+            Frame::Roll { account } => put_code(answers, calls::roll(&mut self.book, account)),
+            Frame::Report { account } => put_report(
+                answers,
+                calls::report(&self.book, &self.parameters, account),
+            ),
+            Frame::Malformed => put_code(answers, Err(Refusal::Malformed)),
+        }
     }
 }

@@ -2,7 +2,6 @@ ghost use Rattle.std.specs.Prelude.{◌≡◌, ◌+◌, ◌≤◌, length};
 ghost use Rattle.session_lines.specs.Stream.{longest_line, stream_of, fed_in, fed, Took, ended};
 ghost use Rattle.session_lines.specs.HoweverCut.{fresh};
 
-use crate::answer;
 use crate::line::Line;
 use crate::sizes::{LONGEST_ANSWER, LONGEST_LINE, PARAMETERS};
 use book::in_block::BOOK_LENGTH;
@@ -48,7 +47,7 @@ impl Session {
                 return used;
             }
             let frame = self.line.frame();
-            answer::answer(&mut self.book, &mut self.parameters, frame, answers);
+            self.answer(frame, answers);
             self.line.count = 0;
         }
         piece.len()

@@ -79,7 +79,7 @@ loop-used-preserved c =
       inside = λ h. written_inside f.out _ a.said.said (j.invariant.inside h);
       counted = λ _. omega arith;
       rest = j.invariant.rest ∙ line_taken f _ c.loop-used-test.true c.if-b-ne-NEWLINE.false (omega arith)
-          (line_closed f j.self.line.bytes c.frame-frame.ensures a.kept a.said.said);
+          (line_closed f c.answer.new.self.line.bytes c.frame-frame.ensures a.kept a.said.said);
     }
 
 pub returns : goal.returns
