@@ -1,2 +1,3 @@
--- What the proof of `put_answer` uses: an answer laid in a buffer.
+-- What the proofs of answers use: an answer laid in a buffer.
 pub mod Written
+pub mod Puts

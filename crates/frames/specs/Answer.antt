@@ -1,9 +1,9 @@
 -- Document 01, "Session lines": the line of an answer, and a buffer with it.
 -- Assumes nothing.
-use Rattle.std.specs.Prelude.{cond, List, [], ◌∷◌, ◌++◌, ℕ, ◌+◌, leb, ℤ, length}
-use Rattle.std.specs.Borrow.{MutBor}
-use denote.Triple.Both.{Both}
+use Rattle.std.specs.Prelude.{◌≡◌, cond, List, [], ◌∷◌, ◌++◌, ℕ, ◌+◌, leb, ℤ, length}
 use Rattle.whole.specs.Parts.{put}
+use Rattle.whole.specs.Laid.{Laid}
+use Rattle.frames.specs.declared.answer.Answers.{Answers}
 use Rattle.frames.specs.Hex.{hex_of}
 use Rattle.frames.specs.Number.{n8}
 
@@ -28,6 +28,16 @@ written out at line =
     (record { bytes = put at (length line) out line; at = at + length line })
     (record { bytes = out; at = at })
 
--- as an `ensures` says it of the buffer
-abbrev pub written_to : Both (MutBor (List ℕ)) (MutBor (List ℕ)) → ℕ → Written
-written_to out next = record { bytes = out.exit.now; at = next }
+-- ---- as contracts name them: what is written in a buffer, and that the same buffer has one line more
+abbrev pub written_in : Answers → Written
+written_in answers = record { bytes = answers.out.now; at = answers.at }
+
+pub record Wrote (before after : Answers) (line : List ℕ) : Type 0 where
+  pub same : after.out.ghost_name ≡ before.out.ghost_name
+  pub said : written_in after ≡ written before.out.now before.at line
+
+-- where there is room for it: the line, so many bytes, stands past what stood there
+pub record Puts (before after : Answers) (size : ℕ) (line : List ℕ) : Type 0 where
+  pub same : after.out.ghost_name ≡ before.out.ghost_name
+  pub long : length after.out.now ≡ length before.out.now
+  pub laid : Laid before.out.now before.at size line after.out.now after.at

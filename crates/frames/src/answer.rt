@@ -1,11 +1,10 @@
-ghost use Rattle.std.specs.Prelude.{◌≡◌, [], ◌∷◌, ◌+◌, ◌*◌, ◌≤◌, ◌<◌, length};
-ghost use Rattle.whole.specs.Laid.{LaidIn};
+ghost use Rattle.std.specs.Prelude.{◌≡◌, [], ◌∷◌, ◌+◌, ◌-◌, ◌*◌, ◌≤◌, ◌<◌, length, take};
 ghost use Rattle.frames.specs.Hex.{digit_of, hex_of};
-ghost use Rattle.frames.specs.Answer.{figure_bytes, answer_line, written, written_to};
+ghost use Rattle.frames.specs.Answer.{figure_bytes, answer_line, Puts, Wrote};
 
 use crate::hex;
 
-// An answer as a line at a place of a buffer.
+// Answers in a buffer, one line after another.
 
 pub const NEWLINE: u8 = b'\n';
 
@@ -26,65 +25,79 @@ fn digit(v: u8) -> u8
     }
 }
 
-// A byte of the buffer.
-#[tactic(auto, using(whole::proofs::Laid::laid_one))]
-fn put(out: &mut [u8], at: usize, b: u8) -> usize
-    requires { at + 1 ≤ length out.old }
-    ensures { LaidIn out at 1 (b ∷ []) result }
-{
-    out[at] = b;
-    at + 1
+// A buffer, and the place past what is written in it.
+#[derive(Drop)]
+pub struct Answers<'a> {
+    pub out: &'a mut [u8],
+    pub at: usize,
 }
 
-// Bytes, each as its two digits.
-fn put_bytes(out: &mut [u8], at: usize, bytes: &[u8]) -> usize
-    requires { at + 2 * length bytes.now ≤ length out.old }
-    ensures { LaidIn out at (2 * length bytes.now) (hex_of bytes.now) result }
-{
-    let mut next = at;
-    for b in bytes {
-        next = put(out, next, digit(*b / hex::BASE));
-        next = put(out, next, digit(*b % hex::BASE));
+impl<'a> Answers<'a> {
+    pub fn new(out: &'a mut [u8]) -> Answers<'a>
+        ensures same { result.out.ghost_name ≡ out.entry.ghost_name }
+        ensures bytes { result.out.now ≡ out.old }
+        ensures at { result.at ≡ 0 }
+    {
+        Answers { out, at: 0 }
     }
-    next
-}
 
-// The figures, each as n8.
-fn put_figures(out: &mut [u8], at: usize, figures: &[i64]) -> usize
-    requires { at + 16 * length figures.now ≤ length out.old }
-    ensures { LaidIn out at (16 * length figures.now) (hex_of (figure_bytes figures.now)) result }
-{
-    let mut next = at;
-    for figure in figures {
-        next = put_bytes(out, next, &figure.to_be_bytes());
+    // The bytes that can still be written.
+    pub fn room(&self) -> usize
+        ensures { result ≡ length self.now.out.now - self.now.at }
+    {
+        self.out.len().saturating_sub(self.at)
     }
-    next
-}
 
-// The code, the figures and the newline.
-fn put_line(out: &mut [u8], at: usize, code: u8, figures: &[i64]) -> usize
-    requires { at + 2 + 16 * length figures.now + 1 ≤ length out.old }
-    ensures { LaidIn out at (2 + 16 * length figures.now + 1) (answer_line code figures.now) result }
-{
-    let past_code = put_bytes(out, at, &[code]);
-    let past_figures = put_figures(out, past_code, figures);
-    put(out, past_figures, NEWLINE)
-}
+    // What is written.
+    pub fn written(&self) -> &[u8]
+        requires { self.now.at ≤ length self.now.out.now }
+        ensures { result.now ≡ take self.now.at self.now.out.now }
+    {
+        &self.out[..self.at]
+    }
 
-// An answer's line written at a place, and the place past it. Where there is no room for the whole line nothing is written.
-#[tactic(auto, using(crate::proofs::Digits::answer_length, crate::proofs::answer::Written::no_room))]
-pub fn put_answer(out: &mut [u8], at: usize, code: u8, figures: &[i64]) -> usize
-    ensures { written_to out result ≡ written out.old at (answer_line code figures.now) }
-{
-    if out.len() < at {
-        return at;
+    fn put(&mut self, b: u8)
+        requires { self.old.at + 1 ≤ length self.old.out.now }
+        ensures { Puts self.old self.new 1 (b ∷ []) }
+    {
+        self.out[self.at] = b;
+        self.at += 1;
     }
-    let room = out.len() - at;
-    if room < SHORTEST {
-        return at;
+
+    // Bytes, each as its two digits.
+    fn put_bytes(&mut self, bytes: &[u8])
+        requires { self.old.at + 2 * length bytes.now ≤ length self.old.out.now }
+        ensures { Puts self.old self.new (2 * length bytes.now) (hex_of bytes.now) }
+    {
+        for b in bytes {
+            self.put(digit(*b / hex::BASE));
+            self.put(digit(*b % hex::BASE));
+        }
     }
-    if (room - SHORTEST) / FIGURE < figures.len() {
-        return at;
+
+    // The figures, each as n8.
+    fn put_figures(&mut self, figures: &[i64])
+        requires { self.old.at + 16 * length figures.now ≤ length self.old.out.now }
+        ensures { Puts self.old self.new (16 * length figures.now) (hex_of (figure_bytes figures.now)) }
+    {
+        for figure in figures {
+            self.put_bytes(&figure.to_be_bytes());
+        }
     }
-    put_line(out, at, code, figures)
+
+    // An answer's line: the code, the figures and the newline. Where there is no room for the whole line nothing is written.
+    pub fn put_answer(&mut self, code: u8, figures: &[i64])
+        ensures { Wrote self.old self.new (answer_line code figures.now) }
+    {
+        let room = self.room();
+        if room < SHORTEST {
+            return;
+        }
+        if (room - SHORTEST) / FIGURE < figures.len() {
+            return;
+        }
+        self.put_bytes(&[code]);
+        self.put_figures(figures);
+        self.put(NEWLINE);
+    }
 }

@@ -6,7 +6,7 @@ mod hex;
 mod in_frame;
 mod number;
 
-pub use answer::{NEWLINE, put_answer};
+pub use answer::{Answers, NEWLINE};
 pub use frame::{Frame, MoveNumbers, OrderNumbers, frame_of};
 
 // Session lines of document 01: a line's bytes to a frame, and an answer to its line. Both take any input.

@@ -4,6 +4,7 @@
 ghost use Rattle.std.specs.Prelude.{◌≤◌, length, IfOk};
 ghost use Rattle.session_lines.specs.Stream.{longest_answer, WentThrough};
 
+use frames::Answers;
 use session_lines::Session;
 use std::io::{Stderr, Stdin, Stdout};
 
@@ -35,9 +36,10 @@ fn answer_piece(
 {
     let mut rest = piece;
     while !rest.is_empty() {
-        let spot = session.feed(rest, out);
-        waiting::write_all(streams.output, streams.errors, &out[..spot.at])?;
-        rest = &rest[spot.used..];
+        let mut answers = Answers::new(out);
+        let used = session.feed(rest, &mut answers);
+        waiting::write_all(streams.output, streams.errors, answers.written())?;
+        rest = &rest[used..];
     }
     Ok(())
 }
@@ -72,8 +74,9 @@ fn serve(
     requires { longest_answer ≤ length out.old }
 {
     read_all(streams, session, buf, out)?;
-    let spot = session.end(out);
-    waiting::write_all(streams.output, streams.errors, &out[..spot.at])
+    let mut answers = Answers::new(out);
+    session.end(&mut answers);
+    waiting::write_all(streams.output, streams.errors, answers.written())
 }
 
 // A whole session: an empty book, all-zero tables, and every line of standard input answered. `Ok` where all of it was read and every answer written.

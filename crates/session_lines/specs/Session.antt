@@ -8,7 +8,7 @@ use Rattle.rates.specs.Lent.{Tables}
 use Rattle.book.specs.Block.{book_length}
 use Rattle.book.specs.declared.terms.Terms.{Terms}
 use Rattle.figures.specs.Limit.{five}
-use Rattle.engine.specs.State.{State, Changed, found, left}
+use Rattle.engine.specs.State.{State}
 use Rattle.engine.specs.Refused.{place_of}
 use Rattle.engine.specs.Calls.{Call, outcome_of, opening, moving, ordering, rolling}
 use Rattle.engine.specs.Report.{Reported, report_of}
@@ -38,13 +38,6 @@ tables_of parameters = record {
   own = part table_length table_length parameters;
   groups = part (table_length + table_length) group_count parameters;
 }
-
--- as an `ensures` names it
-abbrev pub memory_found : Changed → Changed → Memory
-memory_found book parameters = record { state = found book; parameters = parameters.entry.now }
-
-abbrev pub memory_left : Changed → Changed → Memory
-memory_left book parameters = record { state = left book; parameters = parameters.exit.now }
 
 -- ---- what a line is answered, and what it leaves
 pub record Answered : Type 0 where

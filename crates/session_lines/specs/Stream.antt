@@ -4,13 +4,13 @@
 use Rattle.std.specs.Prelude.{◌≡◌, Bool, false, cond, List, [], ◌∷◌, ◌++◌, ℕ, ◌+◌, ◌≤◌, ◌<◌, eqb, leb, ltb, length, take}
 use Rattle.engine.specs.State.{state}
 use Rattle.frames.specs.Frame.{line_frame}
-use Rattle.frames.specs.Answer.{Written, written}
+use Rattle.frames.specs.Answer.{Written, written, written_in}
+use Rattle.frames.specs.declared.answer.Answers.{Answers}
 use Rattle.frames.specs.declared.frame.Frame.{Frame}
 use Rattle.frames.specs.declared.frame.Frame.TheVariants.{Malformed}
 use Rattle.session_lines.specs.Session.{Memory, answered, newline}
 use Rattle.session_lines.specs.declared.line.Line.{Line}
 use Rattle.session_lines.specs.declared.stream.Session.{Session}
-use Rattle.session_lines.specs.declared.stream.Spot.{Spot}
 
 -- the digits of the longest frame, an order; the bytes of the longest answer, a report's
 abbrev pub longest_line : ℕ
@@ -88,27 +88,32 @@ fed f (b ∷ piece) = cond (eqb b newline) (cond (has_room f.out) (fed (closed f
 unfoldable pub ended : Fed → Fed
 ended f = cond (is_blank f.stream.line) f (fed f (newline ∷ []))
 
--- ---- as a contract names them: the line and the stream that memory holds, a buffer in which nothing is written, and what a call left
-abbrev pub line_held : Line → Begun
-line_held line = held line.bytes line.count
-
-abbrev pub stream_of : Session → Stream
-stream_of s = record { line = line_held s.line; memory = record { state = state s.book; parameters = s.parameters } }
-
+-- ---- as contracts name them: a buffer in which nothing is written, and the line and the stream that memory holds, with so many bytes of a piece used
 abbrev pub empty : Stream → List ℕ → Fed
 empty s out = record { used = 0; stream = s; out = record { bytes = out; at = 0 } }
 
-abbrev pub fed_to : Spot → Session → List ℕ → Fed
-fed_to r s out = record { used = r.used; stream = stream_of s; out = record { bytes = out; at = r.at } }
+abbrev pub line_held : Line → Begun
+line_held line = held line.bytes line.count
+
+abbrev pub memory_of : Session → Memory
+memory_of s = record { state = state s.book; parameters = s.parameters }
+
+abbrev pub stream_of : Session → Stream
+stream_of s = record { line = line_held s.line; memory = memory_of s }
+
+abbrev pub fed_in : ℕ → Session → Answers → Fed
+fed_in used s answers = record { used = used; stream = stream_of s; out = written_in answers }
 
 -- every byte of a piece, from what a session held to what it holds
 abbrev pub WentThrough : Session → Session → List ℕ → Type 0
 WentThrough before after piece = stream_of after ≡ through (stream_of before) piece
 
--- what follows for a caller: no more than the piece and the buffer; where the buffer has room for an answer, some of a piece that has any byte; and
--- the count of a line that is too long is the longest line's and one
-pub record Took (before after : Session) (r : Spot) (piece out : List ℕ) : Type 0 where
-  pub within : r.used ≤ length piece
-  pub inside : r.at ≤ length out
-  pub some : longest_answer ≤ length out → 0 < length piece → 0 < r.used
+-- what follows for a caller: no more than the piece and the buffer, which is the same; where the buffer has room for an answer, some of a piece that has
+-- any byte; and the count of a line that is too long is the longest line's and one
+pub record Took (before after : Session) (found left : Answers) (used : ℕ) (piece : List ℕ) : Type 0 where
+  pub within : used ≤ length piece
+  pub same : left.out.ghost_name ≡ found.out.ghost_name
+  pub long : length left.out.now ≡ length found.out.now
+  pub inside : found.at ≤ length found.out.now → left.at ≤ length left.out.now
+  pub some : found.at + longest_answer ≤ length found.out.now → 0 < length piece → 0 < used
   pub counted : before.line.count ≤ longest_line + 1 → after.line.count ≤ longest_line + 1

@@ -1,27 +1,28 @@
 ghost use Rattle.std.specs.Prelude.{◌≡◌, []};
 ghost use Rattle.whole.specs.Codes.{answer_code};
-ghost use Rattle.frames.specs.Answer.{answer_line, written, written_to};
+ghost use Rattle.frames.specs.Answer.{answer_line, Wrote};
 ghost use Rattle.engine.specs.Report.{reported_as};
-ghost use Rattle.session_lines.specs.Session.{memory_found, memory_left, report_line, answered};
+ghost use Rattle.session_lines.specs.Session.{report_line, answered};
+ghost use Rattle.session_lines.specs.Stream.{memory_of};
 
 use crate::calls;
-use crate::sizes::PARAMETERS;
+use crate::stream::Session;
 use figures::Figures;
-use frames::Frame;
+use frames::{Answers, Frame};
 use whole::Refusal;
 
 // A frame answered: its call, and the line of its answer.
 
 // A code alone.
-fn put_code(out: &mut [u8], at: usize, answer: Result<(), Refusal>) -> usize
-    ensures { written_to out result ≡ written out.old at (answer_line (answer_code answer) []) }
+fn put_code(answers: &mut Answers<'_>, answer: Result<(), Refusal>)
+    ensures { Wrote answers.old answers.new (answer_line (answer_code answer) []) }
 {
-    frames::put_answer(out, at, whole::code(answer), &[])
+    answers.put_answer(whole::code(answer), &[]);
 }
 
 // A report's code and figures; zeros where it was turned away.
-fn put_report(out: &mut [u8], at: usize, answer: Result<Figures, Refusal>) -> usize
-    ensures { written_to out result ≡ written out.old at (report_line (reported_as answer)) }
+fn put_report(answers: &mut Answers<'_>, answer: Result<Figures, Refusal>)
+    ensures { Wrote answers.old answers.new (report_line (reported_as answer)) }
 {
     match answer {
         Ok(found) => {
@@ -32,39 +33,43 @@ fn put_report(out: &mut [u8], at: usize, answer: Result<Figures, Refusal>) -> us
                 found.discount,
                 found.limit,
             ];
-            frames::put_answer(out, at, whole::code(Ok(())), &figures)
+            answers.put_answer(whole::code(Ok(())), &figures);
         }
-        Err(refusal) => frames::put_answer(out, at, u8::from(refusal), &[0; 5]),
+        Err(refusal) => answers.put_answer(u8::from(refusal), &[0; 5]),
     }
 }
 
-// What a frame leaves in the book and the parameters, and the line of its answer at a place of `out`.
-#[tactic(auto, unfolding(crate::specs::Session::answered))]
-pub(crate) fn answer(
-    book: &mut [i64],
-    parameters: &mut [i64; PARAMETERS],
-    frame: Frame,
-    out: &mut [u8],
-    at: usize,
-) -> usize
-    ensures kept { memory_left book parameters ≡ (answered (memory_found book parameters) frame).memory }
-    ensures said { written_to out result ≡ written out.old at (answered (memory_found book parameters) frame).line }
-{
-    match frame {
-        Frame::Parameter { place, number } => put_code(
-            out,
-            at,
-            calls::set_parameter(parameters, place, number),
-        ),
-        Frame::Open {
-            account,
-            kind,
-            code,
-        } => put_code(out, at, calls::open(book, account, kind, code)),
-        Frame::Move(line) => put_code(out, at, calls::move_collateral(book, parameters, line)),
-        Frame::Order(line) => put_code(out, at, calls::order(book, parameters, line)),
-        Frame::Roll { account } => put_code(out, at, calls::roll(book, account)),
-        Frame::Report { account } => put_report(out, at, calls::report(book, parameters, account)),
-        Frame::Malformed => put_code(out, at, Err(Refusal::Malformed)),
+impl Session {
+    // What a frame leaves in memory, and the line of its answer.
+    #[tactic(auto, unfolding(crate::specs::Session::answered))]
+    pub(crate) fn answer(&mut self, frame: Frame, answers: &mut Answers<'_>)
+        ensures kept { memory_of self.new ≡ (answered (memory_of self.old) frame).memory }
+        ensures said { Wrote answers.old answers.new (answered (memory_of self.old) frame).line }
+    {
+        match frame {
+            Frame::Parameter { place, number } => put_code(
+                answers,
+                calls::set_parameter(&mut self.parameters, place, number),
+            ),
+            Frame::Open {
+                account,
+                kind,
+                code,
+            } => put_code(answers, calls::open(&mut self.book, account, kind, code)),
+            Frame::Move(line) => put_code(
+                answers,
+                calls::move_collateral(&mut self.book, &self.parameters, line),
+            ),
+            Frame::Order(line) => put_code(
+                answers,
+                calls::order(&mut self.book, &self.parameters, line),
+            ),
+            Frame::Roll { account } => put_code(answers, calls::roll(&mut self.book, account)),
+            Frame::Report { account } => put_report(
+                answers,
+                calls::report(&self.book, &self.parameters, account),
+            ),
+            Frame::Malformed => put_code(answers, Err(Refusal::Malformed)),
+        }
     }
 }

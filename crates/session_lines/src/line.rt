@@ -33,9 +33,9 @@ impl Line {
         if self.count < LONGEST_LINE {
             self.bytes[self.count] = b;
             self.count += 1;
-            return;
+        } else {
+            self.count = LONGEST_LINE + 1;
         }
-        self.count = LONGEST_LINE + 1;
     }
 
     // Whether no byte of it is held.

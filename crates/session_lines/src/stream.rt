@@ -1,12 +1,11 @@
 ghost use Rattle.std.specs.Prelude.{◌≡◌, ◌+◌, ◌≤◌, length};
-ghost use Rattle.session_lines.specs.Stream.{longest_line, stream_of, fed_to, empty, fed, Took, ended};
+ghost use Rattle.session_lines.specs.Stream.{longest_line, stream_of, fed_in, fed, Took, ended};
 ghost use Rattle.session_lines.specs.HoweverCut.{fresh};
 
-use crate::answer;
 use crate::line::Line;
 use crate::sizes::{LONGEST_ANSWER, LONGEST_LINE, PARAMETERS};
 use book::in_block::BOOK_LENGTH;
-use frames::NEWLINE;
+use frames::{Answers, NEWLINE};
 
 // The stream, in any pieces.
 
@@ -16,13 +15,6 @@ pub struct Session {
     pub book: [i64; BOOK_LENGTH],
     pub parameters: [i64; PARAMETERS],
     pub line: Line,
-}
-
-// What was taken of a piece, and the bytes written to `out`.
-#[derive(Clone, Copy, Debug, PartialEq, Eq)]
-pub struct Spot {
-    pub used: usize,
-    pub at: usize,
 }
 
 impl Session {
@@ -41,41 +33,38 @@ impl Session {
         }
     }
 
-    // Takes bytes of a piece until it ends, or a line ends whose answer may not fit in `out` any more.
-    pub fn feed(&mut self, piece: &[u8], out: &mut [u8]) -> Spot
-        ensures fed { fed_to result self.new out.new ≡ fed (empty (stream_of self.old) out.old) piece.now }
-        ensures took { Took self.old self.new result piece.now out.new }
+    // Takes bytes of a piece until it ends, or a line ends whose answer may have no room; how many it took.
+    pub fn feed(&mut self, piece: &[u8], answers: &mut Answers<'_>) -> usize
+        ensures fed { fed_in result self.new answers.new ≡ fed (fed_in 0 self.old answers.old) piece.now }
+        ensures took { Took self.old self.new answers.old answers.new result piece.now }
     {
-        let mut at = 0;
         for (used, b) in piece.iter().enumerate() {
             if *b != NEWLINE {
                 self.line.hold(*b);
                 continue;
             }
-            if out.len() - at < LONGEST_ANSWER {
-                return Spot { used, at };
+            if answers.room() < LONGEST_ANSWER {
+                return used;
             }
             let frame = self.line.frame();
-            at = answer::answer(&mut self.book, &mut self.parameters, frame, out, at);
+            self.answer(frame, answers);
             self.line.count = 0;
         }
-        Spot {
-            used: piece.len(),
-            at,
-        }
+        piece.len()
     }
 
-    // The end of the input: a line that has begun ends, though its newline lacks, and `used` is 1. Where none has begun, or `out` has no room for the
-    // longest answer, nothing is done and `used` is 0.
+    // The end of the input: a line that has begun ends, though its newline lacks, and 1 is answered. Where none has begun, or there is no room for the
+    // longest answer, nothing is done and 0 is answered.
     #[tactic(auto, unfolding(crate::specs::Stream::ended))]
-    pub fn end(&mut self, out: &mut [u8]) -> Spot
-        ensures ended { fed_to result self.new out.new ≡ ended (empty (stream_of self.old) out.old) }
-        ensures inside { result.at ≤ length out.new }
+    pub fn end(&mut self, answers: &mut Answers<'_>) -> usize
+        ensures ended { fed_in result self.new answers.new ≡ ended (fed_in 0 self.old answers.old) }
+        ensures same { answers.new.out.ghost_name ≡ answers.old.out.ghost_name }
+        ensures inside { answers.old.at ≤ length answers.old.out.now → answers.new.at ≤ length answers.new.out.now }
         ensures counted { self.old.line.count ≤ longest_line + 1 → self.new.line.count ≤ longest_line + 1 }
     {
         if self.line.is_blank() {
-            return Spot { used: 0, at: 0 };
+            return 0;
         }
-        self.feed(&[NEWLINE], out)
+        self.feed(&[NEWLINE], answers)
     }
 }

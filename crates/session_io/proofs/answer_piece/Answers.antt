@@ -10,8 +10,8 @@ use Rattle.session_io.proofs.answer_piece.Goals as goal
 
 pub loop-rest-preserved : goal.loop-rest-preserved
 loop-rest-preserved c =
-    let spot = c.feed-spot in
-    ap (through (stream_of spot.new.self)) (take_rest _ spot.result.used) ∙ rest_through _ _ _ refl spot.ensures.fed ∙ c.loop-rest.invariant
+    let feed = c.feed-used in
+    ap (through (stream_of feed.new.self)) (take_rest _ feed.result) ∙ rest_through _ _ _ refl feed.ensures.fed ∙ c.loop-rest.invariant
 
 pub returns : goal.returns
 returns c = let none : length c.loop-rest.rest.now ≡ 0 = eqb-true _ 0 (sym c.loop-rest-test.ensures) in sym (through_end _ _ none) ∙ c.loop-rest.invariant

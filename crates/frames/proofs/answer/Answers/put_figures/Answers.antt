@@ -1,4 +1,4 @@
--- `answer::put_figures` meets its contract: the first figures are laid, and then one more. Assumes nothing.
+-- `Answers::put_figures` meets its contract: the first figures are put, and then one more. Assumes nothing.
 use mathlib.Core.Path.{ap, ◌∙◌}
 use Prim.Native.Nat.{◌+◌, ◌*◌}
 use native.Mathlib.Omega.{arith}
@@ -11,14 +11,14 @@ use mir.Facts.{to_z-of_z}
 use Rattle.std.specs.Int.{to_be_bytes}
 use Rattle.frames.specs.Hex.{hex_of}
 use Rattle.frames.specs.Answer.{figure_bytes}
-use Rattle.whole.proofs.Laid.{laid_none, laid_same, laid_size, laid_then}
+use Rattle.frames.proofs.answer.Puts.{puts_none, puts_same, puts_size, puts_then}
 use Rattle.frames.proofs.Bytes.{n8_bytes}
 use Rattle.frames.proofs.Digits.{figures_next, n8_length}
-use Rattle.frames.proofs.answer.put_figures.Goals as goal
+use Rattle.frames.proofs.answer.Answers.put_figures.Goals as goal
 
 pub loop-figure-init : goal.loop-figure-init
 unfolding hex_of figure_bytes
-loop-figure-init c = laid_none _ _ (omega arith)
+loop-figure-init c = puts_none _ (omega arith)
 
 pub loop-figure-preserved : goal.loop-figure-preserved
 loop-figure-preserved c =
@@ -27,6 +27,6 @@ loop-figure-preserved c =
     let fits : SFits w64 z = search rules in
     let bytes = c.to_be_bytes.ensures ∙ ap (λ (y : ℤ). to_be_bytes w64 (of_z w64 y)) (to_z-of_z {w = w64} fits) ∙ n8_bytes z fits in
     let size = ap length bytes ∙ n8_length z in
-    laid_same (figures_next _ j.figure-index c.loop-figure-test.true)
-    (laid_size {n = 16 * j.figure-index + 16} (omega arith)
-    (laid_then (omega arith) j.invariant (laid_size (omega arith) (laid_same (ap hex_of bytes) c.put_bytes-next.ensures))))
+    puts_same (figures_next _ j.figure-index c.loop-figure-test.true)
+    (puts_size {n = 16 * j.figure-index + 16} (omega arith)
+    (puts_then (omega arith) j.invariant (puts_size (omega arith) (puts_same (ap hex_of bytes) c.put_bytes.ensures))))
