@@ -7,9 +7,6 @@ use Rattle.book.specs.Changes.{added}
 use Rattle.book.proofs.Amounts.{summed}
 use Rattle.book.proofs.changes.add.Goals as goal
 
-pub overflow_add-block : goal.overflow_add-block
-overflow_add-block c = let p = c.requires in omega ints
-
 pub returns : goal.returns
 unfolding added
 returns c = ap (λ (z : ℤ). set c.args.block.now c.args.k z) (summed c.requires.1 c.requires.2)

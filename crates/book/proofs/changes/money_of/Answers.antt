@@ -7,9 +7,6 @@ use Rattle.book.proofs.Amounts.{large, negative_fits, negated}
 use Rattle.book.proofs.Trades.{money_buy, money_sell, money_within}
 use Rattle.book.proofs.changes.money_of.Goals as goal
 
-pub overflow_sub-result : goal.overflow_sub-result
-overflow_sub-result c = negative_fits c.requires.money_within
-
 pub returns-then-t-eq0 : goal.returns-then-t-eq0
 returns-then-t-eq0 c =
     let e = negated c.requires.money_within ∙ sym (money_buy c.args.t c.if-t-eq0.true) in

@@ -15,12 +15,6 @@ pub returns-then-asset-eq-RUBLES : goal.returns-then-asset-eq-RUBLES
 unfolding move_at
 returns-then-asset-eq-RUBLES c = (simp (eq-eqb _ 255 c.if-asset-eq-RUBLES.true), omega arith)
 
-pub overflow_mul-result : goal.overflow_mul-result
-overflow_mul-result c = let l = an_asset c in search rules
-
-pub overflow_add-result : goal.overflow_add-result
-overflow_add-result c = let l = an_asset c in search rules
-
 pub returns-else-asset-eq-RUBLES : goal.returns-else-asset-eq-RUBLES
 unfolding move_at
 returns-else-asset-eq-RUBLES c = let l = an_asset c in (simp (ne_eqb _ 255 c.if-asset-eq-RUBLES.false), omega arith)

@@ -12,12 +12,6 @@ use Rattle.book.proofs.Amounts.{large, negated}
 use Rattle.book.proofs.Trades.{reversed_ranges}
 use Rattle.book.proofs.changes.reversed.Goals as goal
 
-pub overflow_sub-result : goal.overflow_sub-result
-overflow_sub-result c = let r = c.requires in let q = r.quantity_within in let m = r.money_within in omega ints
-
-pub overflow_sub-result-2 : goal.overflow_sub-result-2
-overflow_sub-result-2 c = let m = c.requires.money_within in omega ints
-
 made : (t : Trade) → TradeRanges t
     → ◌≡◌ {A = Trade} (record { asset = t.asset; date = t.date; side = t.side; quantity = back (pos 0 -ℤ back t.quantity); money = back (pos 0 -ℤ back t.money) }) (reversed t)
 unfolding reversed

@@ -17,9 +17,6 @@ pub roll_rubles-requires : goal.roll_rubles-requires
 unfolding part
 roll_rubles-requires c = let p = c.requires in ruble_ranges _ p.long p.in_bounds
 
-pub loop-a-init : goal.loop-a-init
-loop-a-init c = (c.block-1.given.1 ∙ c.requires.long, λ found long e. e)
-
 pub roll_holding-requires : goal.roll_holding-requires
 roll_holding-requires c =
     let p = c.requires in
@@ -32,9 +29,6 @@ loop-a-preserved c =
       c.block-in-loop-a-1.given.1 ∙ l.invariant.0,
       λ found long e. to_next found long l.a (omega arith) l.block (l.invariant.1 found long e) _ c.roll_holding.ensures,
     )
-
-pub shape_of-block : goal.shape_of-block
-shape_of-block c = c.loop-a.invariant.0 ∙ sym c.requires.long
 
 pub returns : goal.returns
 returns c =

@@ -15,15 +15,6 @@ pub overflow_sub-holding : goal.overflow_sub-holding
 overflow_sub-holding c = let h = c.requires in let a = collateral_size h in let b = claim_size h in let d = obligation_size h in
     omega (ints, summed a b)
 
-pub slice_bounds-day_later-end : goal.slice_bounds-day_later-end
-slice_bounds-day_later-end c = let h = c.requires in simp length-set (omega arith)
-
-pub slice_bounds-day_later-end-2 : goal.slice_bounds-day_later-end-2
-slice_bounds-day_later-end-2 c = let h = c.requires in omega (arith, simp length-set at c.holding-4-1.given.1)
-
-pub shape_of-holding : goal.shape_of-holding
-shape_of-holding c = c.holding-5-1.given.1 ∙ c.holding-4-1.given.1 ∙ simp length-set
-
 pub returns : goal.returns
 returns c = let h = c.requires in
     holding_rolled _ _ _ _ h.long (differed (collateral_size h) (claim_size h) (obligation_size h))

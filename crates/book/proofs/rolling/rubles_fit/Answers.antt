@@ -6,9 +6,6 @@ use Rattle.book.specs.Roll.{rolled_rubles}
 use Rattle.book.proofs.Amounts.{sum_fits, summed}
 use Rattle.book.proofs.rolling.rubles_fit.Goals as goal
 
-pub overflow_add-rubles : goal.overflow_add-rubles
-overflow_add-rubles c = let r = c.requires in sum_fits (r.each_within 0 (omega arith)) (r.each_within 1 (omega arith))
-
 pub returns : goal.returns
 unfolding rolled_rubles
 returns c = let r = c.requires in
