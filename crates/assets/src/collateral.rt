@@ -1,9 +1,9 @@
 ghost use Rattle.std.specs.Prelude.{◌≡◌};
 ghost use Rattle.whole.specs.Bounds.{◌within◌, ◌upto◌};
-ghost use Rattle.rates.specs.Ranges.{RowRanges};
 ghost use Rattle.assets.specs.Collateral.{pool_share_in_force, share_by_kind, share_in_force, is_special, regime_of, counted, adjusted, valued};
 ghost use Rattle.assets.specs.Ranges.{ShareRange};
 
+use crate::lent::Row;
 use rates::in_row;
 use rates::units::WHOLE;
 
@@ -18,7 +18,7 @@ pub enum Regime {
     Accepted(i64),
 }
 
-// Kinds of an account.
+// Kinds of an account. A kind is a number here: `asset_of` promises a record for every number, and each but these two takes the pool share.
 const ORDINARY: usize = 1;
 
 const POOL: usize = 2;
@@ -28,47 +28,46 @@ const NOT_RECORDED: i64 = 1;
 
 const PARTIAL: i64 = 2;
 
-// The pool share where it is below the whole, else the acceptance share.
-fn pool_share(row: &[i64]) -> i64
-    requires { RowRanges row.now }
-    ensures { (result ≡ pool_share_in_force row.now) × (result upto 10000) }
-{
-    if row[in_row::POOL_SHARE] < WHOLE {
-        return row[in_row::POOL_SHARE];
+impl Row<'_> {
+    // The pool share where it is below the whole, else the acceptance share.
+    fn pool_share(self) -> i64
+        ensures { (result ≡ pool_share_in_force self.entry.numbers.now) × (result upto 10000) }
+    {
+        if self.numbers[in_row::POOL_SHARE] < WHOLE {
+            return self.numbers[in_row::POOL_SHARE];
+        }
+        self.numbers[in_row::ACCEPTANCE_SHARE]
     }
-    row[in_row::ACCEPTANCE_SHARE]
-}
 
-// The share that a kind of account takes.
-fn share_by_kind(kind: usize, row: &[i64]) -> i64
-    requires { RowRanges row.now }
-    ensures { (result ≡ share_by_kind kind row.now) × (result upto 10000) }
-{
-    if kind == ORDINARY {
-        return row[in_row::ACCEPTANCE_SHARE];
+    // The share that a kind of account takes.
+    fn share_by_kind(self, kind: usize) -> i64
+        ensures { (result ≡ share_by_kind kind self.entry.numbers.now) × (result upto 10000) }
+    {
+        if kind == ORDINARY {
+            return self.numbers[in_row::ACCEPTANCE_SHARE];
+        }
+        if kind == POOL {
+            return self.pool_share();
+        }
+        self.numbers[in_row::POOL_SHARE]
     }
-    if kind == POOL {
-        return pool_share(row);
-    }
-    row[in_row::POOL_SHARE]
-}
 
-// The regime of an asset. Special delivery is decided here; everything else goes by the regime.
-pub(crate) fn regime_of(kind: usize, row: &[i64]) -> Regime
-    requires { RowRanges row.now }
-    ensures { (result ≡ regime_of kind row.now) × ShareRange result }
-{
-    if whole::number_is(row, in_row::SPECIAL_DELIVERY, 1) {
-        return Regime::Special;
+    // The regime of an asset. Special delivery is decided here; everything else goes by the regime.
+    pub(crate) fn regime_of(self, kind: usize) -> Regime
+        ensures { (result ≡ regime_of kind self.entry.numbers.now) × ShareRange result }
+    {
+        if whole::number_is(self.numbers, in_row::SPECIAL_DELIVERY, 1) {
+            return Regime::Special;
+        }
+        if whole::number_is(self.numbers, in_row::COVERED_SALES, NOT_RECORDED) {
+            return Regime::NotRecorded;
+        }
+        let share = self.share_by_kind(kind);
+        if whole::number_is(self.numbers, in_row::COVERED_SALES, PARTIAL) {
+            return Regime::Partial(share);
+        }
+        Regime::Accepted(share)
     }
-    if whole::number_is(row, in_row::COVERED_SALES, NOT_RECORDED) {
-        return Regime::NotRecorded;
-    }
-    let share = share_by_kind(kind, row);
-    if whole::number_is(row, in_row::COVERED_SALES, PARTIAL) {
-        return Regime::Partial(share);
-    }
-    Regime::Accepted(share)
 }
 
 // What counts beside what covers the account's own sales. Of a debt nothing is free, and nothing is taken of it.
@@ -84,13 +83,13 @@ fn counted_of(share: i64, held: i64, net: i64) -> i64
 
 impl Regime {
     // The share in force: none under special delivery, and where the regime carries one, that.
-    pub(crate) fn share_in_force(self, kind: usize, row: &[i64]) -> i64
-        requires { ShareRange self × RowRanges row.now }
-        ensures { (result ≡ share_in_force self kind row.now) × (result upto 10000) }
+    pub(crate) fn share_in_force(self, kind: usize, row: Row<'_>) -> i64
+        requires { ShareRange self }
+        ensures { (result ≡ share_in_force self kind row.entry.numbers.now) × (result upto 10000) }
     {
         match self {
             Regime::Special => 0,
-            Regime::NotRecorded => share_by_kind(kind, row),
+            Regime::NotRecorded => row.share_by_kind(kind),
             Regime::Partial(share) | Regime::Accepted(share) => share,
         }
     }

@@ -1,6 +1,7 @@
 #![tactic(auto)]
 
 mod collateral;
+mod lent;
 mod parts;
 mod record;
 mod risk;

@@ -4,6 +4,7 @@ ghost use Rattle.rates.specs.Ranges.{RowRanges};
 ghost use Rattle.assets.specs.Part.{group_of, part_of};
 ghost use Rattle.assets.specs.Ranges.{AssetRanges, PartRanges};
 
+use crate::lent::Row;
 use crate::record::Asset;
 use crate::risk;
 use rates::in_row;
@@ -21,12 +22,13 @@ pub struct Part {
     pub group: usize,
 }
 
-// The spread group of a row, 0 for none.
-fn group_of(row: &[i64]) -> usize
-    requires { RowRanges row.now }
-    ensures { (result ≡ group_of row.now) × (result < 9) }
-{
-    row[in_row::SPREAD_GROUP] as usize
+impl Row<'_> {
+    // Its spread group, 0 for none.
+    fn group_of(self) -> usize
+        ensures { (result ≡ group_of self.entry.numbers.now) × (result < 9) }
+    {
+        self.numbers[in_row::SPREAD_GROUP] as usize
+    }
 }
 
 // x where it is so, else 0.
@@ -45,14 +47,15 @@ pub fn part_of(row: &[i64], x: Asset) -> Part
     requires { RowRanges row.now × AssetRanges 4 x }
     ensures { (result ≡ part_of row.now x) × PartRanges result }
 {
+    let row = Row { numbers: row };
     let worth = x.worth;
     let positions = x.positions;
     let sum = risk::sum_of(positions);
-    let market = risk::market_risk(row, x, sum);
-    let interest = risk::interest_risk(row, positions);
+    let market = row.market_risk(x, sum);
+    let interest = row.interest_risk(positions);
     let long = if_so(0 < sum, market);
     let short = if_so(sum < 0, market);
-    let group = group_of(row);
+    let group = row.group_of();
     Part {
         worth,
         market,

@@ -1,10 +1,10 @@
 ghost use Rattle.std.specs.Prelude.{◌≡◌, ◌<◌, length, ◌-ℤ◌};
 ghost use Rattle.whole.specs.Bounds.{◌within◌, ◌upto◌};
 ghost use Rattle.whole.specs.Parts.{number};
-ghost use Rattle.rates.specs.Ranges.{RowRanges};
 ghost use Rattle.assets.specs.Risk.{charge, units_charge, side_risk, side_of, position_sum, long_sum, market_risk, interest_of, interest_risk};
 ghost use Rattle.assets.specs.Ranges.{PositionRanges};
 
+use crate::lent::Row;
 use crate::record::Asset;
 use rates::in_row;
 use rates::units::{DATE_COUNT, WHOLE};
@@ -19,26 +19,6 @@ fn charge_of(base: i64, raised: i64, limit: i64, n: i64) -> i64
 {
     let within = whole::lesser(n, limit);
     base * within + raised * (n - within)
-}
-
-// The charge of n units at the rates of a side.
-fn units_charge(row: &[i64], side: usize, n: i64) -> i64
-    requires { RowRanges row.now × (side < 2) × (n upto 64000000) }
-    ensures { (result ≡ units_charge row.now side n) × (result upto 640000000000) }
-{
-    let base = row[in_row::BASE_RATES + side];
-    let raised = row[in_row::RAISED_RATES + side];
-    let limit = row[in_row::MARKET_LIMIT];
-    charge_of(base, raised, limit, n)
-}
-
-// Market risk of n units at the rates of a side.
-fn side_risk(row: &[i64], side: usize, n: i64) -> i64
-    requires { RowRanges row.now × (side < 2) × (n upto 64000000) }
-    ensures { (result ≡ side_risk row.now side n) × (result upto 640000000000000) }
-{
-    let charged = units_charge(row, side, n);
-    whole::divided_up(charged * row[in_row::PRICE], WHOLE)
 }
 
 // The sum of the positions.
@@ -68,20 +48,6 @@ fn side_of(position: i64) -> usize
     in_row::FALL
 }
 
-// Market risk of an asset, by its regime; `sum` is that of its positions.
-pub(crate) fn market_risk(row: &[i64], x: Asset, sum: i64) -> i64
-    requires { RowRanges row.now × PositionRanges x.positions × (sum ≡ position_sum x.positions) × (sum within 64000000) }
-    ensures { (result ≡ market_risk row.now x) × (result upto 640000000000000) }
-{
-    if x.regime.is_special() {
-        let longs = long_sum(x.positions);
-        let falling = side_risk(row, in_row::FALL, longs);
-        let rising = side_risk(row, in_row::RISE, longs - sum);
-        return whole::greater(falling, rising);
-    }
-    side_risk(row, side_of(sum), whole::size(sum))
-}
-
 // How far number i stands above number j, below 0 where it stands lower.
 fn width(row: &[i64], i: usize, j: usize) -> i64
     requires { (i < length row.now) × (j < length row.now) × ((number row.now i -ℤ number row.now j) within 10000000) }
@@ -91,26 +57,62 @@ fn width(row: &[i64], i: usize, j: usize) -> i64
     row[i] - row[j]
 }
 
-// Interest amount of date d. Its up stands behind its low, and the outer up behind the outer low, so that the side says which is taken; a short date's widths
-// are negative, as the mid stands below its ups, and so is its amount.
-fn interest_of(row: &[i64], positions: [i64; 8], d: usize) -> i64
-    requires { RowRanges row.now × PositionRanges positions × (d < 8) }
-    ensures { (result ≡ interest_of row.now positions d) × (result within 80000000000000) }
-{
-    let position = positions[d];
-    let side = side_of(position);
-    let mid = in_row::DATES + in_row::DATE_LENGTH * d;
-    let inner = width(row, mid, mid + in_row::LOW + side);
-    let outer = width(row, mid, mid + in_row::OUTER_LOW + side);
-    let limit = row[in_row::INTEREST_LIMIT];
-    charge_of(inner, outer, limit, whole::size(position))
-}
+impl Row<'_> {
+    // The charge of n units at the rates of a side.
+    fn units_charge(self, side: usize, n: i64) -> i64
+        requires { (side < 2) × (n upto 64000000) }
+        ensures { (result ≡ units_charge self.entry.numbers.now side n) × (result upto 640000000000) }
+    {
+        let base = self.numbers[in_row::BASE_RATES + side];
+        let raised = self.numbers[in_row::RAISED_RATES + side];
+        let limit = self.numbers[in_row::MARKET_LIMIT];
+        charge_of(base, raised, limit, n)
+    }
 
-// Interest risk of an asset.
-pub(crate) fn interest_risk(row: &[i64], positions: [i64; 8]) -> i64
-    requires { RowRanges row.now × PositionRanges positions }
-    ensures { (result ≡ interest_risk row.now positions) × (result upto 640000000000000) }
-{
-    let sum: i64 = (0..DATE_COUNT).map(|d| interest_of(row, positions, d)).sum();
-    whole::size(sum)
+    // Market risk of n units at the rates of a side.
+    fn side_risk(self, side: usize, n: i64) -> i64
+        requires { (side < 2) × (n upto 64000000) }
+        ensures { (result ≡ side_risk self.entry.numbers.now side n) × (result upto 640000000000000) }
+    {
+        let charged = self.units_charge(side, n);
+        whole::divided_up(charged * self.numbers[in_row::PRICE], WHOLE)
+    }
+
+    // Market risk of an asset, by its regime; `sum` is that of its positions.
+    pub(crate) fn market_risk(self, x: Asset, sum: i64) -> i64
+        requires { PositionRanges x.positions × (sum ≡ position_sum x.positions) × (sum within 64000000) }
+        ensures { (result ≡ market_risk self.entry.numbers.now x) × (result upto 640000000000000) }
+    {
+        if x.regime.is_special() {
+            let longs = long_sum(x.positions);
+            let falling = self.side_risk(in_row::FALL, longs);
+            let rising = self.side_risk(in_row::RISE, longs - sum);
+            return whole::greater(falling, rising);
+        }
+        self.side_risk(side_of(sum), whole::size(sum))
+    }
+
+    // Interest amount of date d. Its up stands behind its low, and the outer up behind the outer low, so that the side says which is taken; a short date's widths
+    // are negative, as the mid stands below its ups, and so is its amount.
+    fn interest_of(self, positions: [i64; 8], d: usize) -> i64
+        requires { PositionRanges positions × (d < 8) }
+        ensures { (result ≡ interest_of self.entry.numbers.now positions d) × (result within 80000000000000) }
+    {
+        let position = positions[d];
+        let side = side_of(position);
+        let mid = in_row::DATES + in_row::DATE_LENGTH * d;
+        let inner = width(self.numbers, mid, mid + in_row::LOW + side);
+        let outer = width(self.numbers, mid, mid + in_row::OUTER_LOW + side);
+        let limit = self.numbers[in_row::INTEREST_LIMIT];
+        charge_of(inner, outer, limit, whole::size(position))
+    }
+
+    // Interest risk of an asset.
+    pub(crate) fn interest_risk(self, positions: [i64; 8]) -> i64
+        requires { PositionRanges positions }
+        ensures { (result ≡ interest_risk self.entry.numbers.now positions) × (result upto 640000000000000) }
+    {
+        let sum: i64 = (0..DATE_COUNT).map(|d| self.interest_of(positions, d)).sum();
+        whole::size(sum)
+    }
 }

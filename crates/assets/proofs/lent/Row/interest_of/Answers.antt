@@ -1,4 +1,4 @@
--- `risk::interest_of` meets its contract: the side of the position chooses the two widths, and the charge of its size at these is the date's amount.
+-- `Row::interest_of` meets its contract: the side of the position chooses the two widths, and the charge of its size at these is the date's amount.
 -- Assumes nothing.
 use mathlib.Core.Path.{◌≡◌, sym, ap, ◌∙◌, subst}
 use mathlib.Core.List.{List}
@@ -16,7 +16,7 @@ use Rattle.rates.specs.Ranges.{RowRanges}
 use Rattle.assets.specs.Risk.{side_of, charge}
 use Rattle.assets.specs.Ranges.{PositionRanges}
 use Rattle.assets.proofs.risk.Sides.{size_upto, width_of, widths_within, interest_by_side, interest_within}
-use Rattle.assets.proofs.risk.interest_of.Goals as goal
+use Rattle.assets.proofs.lent.Row.interest_of.Goals as goal
 
 -- what the function works out, from the row and the positions alone
 module _ (row positions : List ℤ) (d : ℕ) (ranges : RowRanges row) (held : PositionRanges positions) (l : d < 8) where
@@ -41,20 +41,20 @@ module _ (row positions : List ℤ) (d : ℕ) (ranges : RowRanges row) (held : P
 -- the two widths
 pub width-inner-requires : goal.width-inner-requires
 width-inner-requires c =
-    let p = c.requires in
-    let long = p.0.long in let below = c.side_of-side.ensures.1 in
-    (omega arith, omega arith, (widths_within _ p.0 c.args.d p.2 c.side_of-side.result below).0)
+    let p = c.args.self.in_range in let q = c.requires in
+    let long = p.long in let below = c.side_of-side.ensures.1 in
+    (omega arith, omega arith, (widths_within _ p c.args.d q.1 c.side_of-side.result below).0)
 
 pub width-outer-requires : goal.width-outer-requires
 width-outer-requires c =
-    let p = c.requires in
-    let long = p.0.long in let below = c.side_of-side.ensures.1 in
-    (omega arith, omega arith, (widths_within _ p.0 c.args.d p.2 c.side_of-side.result below).1)
+    let p = c.args.self.in_range in let q = c.requires in
+    let long = p.long in let below = c.side_of-side.ensures.1 in
+    (omega arith, omega arith, (widths_within _ p c.args.d q.1 c.side_of-side.result below).1)
 
 pub size-requires : goal.size-requires
 size-requires c =
-    let p = c.requires in
-    let h = position_within c.args.row.now c.args.positions c.args.d p.0 p.1 p.2 in
+    let p = c.args.self.in_range in let q = c.requires in
+    let h = position_within c.args.self.numbers.now c.args.positions c.args.d p q.0 q.1 in
     rw (to_z-of_z h.fits) (let l = h.size in omega arith)
 
 -- a width, read back
@@ -63,28 +63,28 @@ width_back h = subst (λ (z : ℤ). z within 10000000) (sym (to_z-of_z h.fits)) 
 
 pub charge_of-requires : goal.charge_of-requires
 charge_of-requires c =
-    let p = c.requires in
-    let size = sized c.args.row.now c.args.positions c.args.d p.0 p.1 p.2 c.size.ensures.0 in (
+    let p = c.args.self.in_range in let q = c.requires in
+    let size = sized c.args.self.numbers.now c.args.positions c.args.d p q.0 q.1 c.size.ensures.0 in (
       width_back c.width-inner.ensures.value.1,
       width_back c.width-outer.ensures.value.1,
-      upto_back p.0.interest_upto,
+      upto_back p.interest_upto,
       upto_back (upto_wider 64000000 size.1 (omega arith)),
     )
 
 pub returns : goal.returns
 returns c =
     let a = c.args in
-    let p = c.requires in
-    let held = position_within a.row.now a.positions a.d p.0 p.1 p.2 in
-    let charged = charge_on a.row.now a.positions a.d p.0 p.1 p.2 in
+    let p = c.args.self.in_range in let q = c.requires in
+    let held = position_within a.self.numbers.now a.positions a.d p q.0 q.1 in
+    let charged = charge_on a.self.numbers.now a.positions a.d p q.0 q.1 in
     let side = c.side_of-side.ensures.0 ∙ ap side_of (to_z-of_z held.fits) in
     let r = c.charge_of.ensures.value in
     let inner = c.width-inner.ensures.value in
     let outer = c.width-outer.ensures.value in
-    let limit = to_z-of_z p.0.interest_upto.fits in
-    let units = to_z-of_z c.size.ensures.1 ∙ (sized a.row.now a.positions a.d p.0 p.1 p.2 c.size.ensures.0).0 in
+    let limit = to_z-of_z p.interest_upto.fits in
+    let units = to_z-of_z c.size.ensures.1 ∙ (sized a.self.numbers.now a.positions a.d p q.0 q.1 c.size.ensures.0).0 in
     let made : back c.charge_of.result ≡ charged c.side_of-side.result
     = to_z-of_z r.1.fits ∙ r.0
     ∙ (λ i. charge ((to_z-of_z inner.1.fits ∙ inner.0) i) ((to_z-of_z outer.1.fits ∙ outer.0) i) (limit i) (units i)) in
-    let e = made ∙ ap charged side ∙ interest_by_side _ p.0 a.d p.2 a.positions in
-    (e, subst (λ (z : ℤ). z within 80000000000000) (sym e) (interest_within _ p.0 a.d p.2 a.positions held))
+    let e = made ∙ ap charged side ∙ interest_by_side _ p a.d q.1 a.positions in
+    (e, subst (λ (z : ℤ). z within 80000000000000) (sym e) (interest_within _ p a.d q.1 a.positions held))
