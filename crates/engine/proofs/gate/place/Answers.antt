@@ -1,5 +1,5 @@
 -- `gate::place` meets its contract: an account from 0 to 15 is the place it is cast to. Assumes nothing.
-use mathlib.Core.Path.{◌≡◌, sym, ap, ◌∙◌}
+use mathlib.Core.Path.{◌≡◌, ap, ◌∙◌}
 use mathlib.Core.Bool.{true, not}
 use native.Mathlib.Omega.{arith}
 use borrow.Author.Tests.{lt-ltb}

@@ -1,9 +1,7 @@
 -- `gate::report_gate` meets its contract: codes 1, 2, 13 and 3, then 6 and 4 of the account that is there. Assumes nothing.
 use mathlib.Core.Path.{◌≡◌, sym, ap, ◌∙◌, subst}
 use mathlib.Core.Bool.{Bool, ◌&&◌}
-use mathlib.Core.List.{List}
 use Prim.Native.Nat.{ℕ}
-use lib.IntN.{ℤ}
 use mir.Facts.{to_z-of_z}
 use Rattle.whole.specs.Refusals.{first_code}
 use Rattle.whole.proofs.Refusals.{follows}

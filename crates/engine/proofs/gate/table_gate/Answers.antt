@@ -1,6 +1,6 @@
 -- `gate::table_gate` meets its contract: the table check's code is the gate's where the book has its length, and the account is looked at last.
 -- Assumes nothing.
-use mathlib.Core.Path.{◌≡◌, sym, ◌∙◌}
+use mathlib.Core.Path.{sym, ◌∙◌}
 use mir.Facts.{to_z-of_z}
 use Rattle.whole.proofs.Parameters.{codes}
 use Rattle.engine.proofs.Exits.{refusal_not_0, exit_code}

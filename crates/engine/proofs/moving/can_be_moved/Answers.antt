@@ -4,7 +4,6 @@ use mathlib.Core.Bool.{true, false}
 use native.Mathlib.Omega.{arith}
 use lib.IntN.{ℤ, nat_abs}
 use mir.Facts.{to_z-of_z}
-use Rattle.whole.proofs.Machine.{back}
 use Rattle.whole.proofs.Parameters.{index}
 use Rattle.rates.specs.Tables.{listed}
 use Rattle.book.specs.Choices.{asset_right, is_rubles}
@@ -25,9 +24,9 @@ overflow_cast-asset c = index 15 (omega arith) c.ranges.asset (an_asset c)
 
 pub returns-then-asset_right : goal.returns-then-asset_right
 returns-then-asset_right c =
-    rw (no_rubles c.before.before.before, an_asset c.before)
+    rw (no_rubles (goal.at.returns-then-asset_right c).Else-is_rubles, an_asset (goal.at.returns-then-asset_right c).Then-asset_right)
     (c.is_listed.ensures ∙ ap (λ (z : ℤ). listed c.args.clearing.now (nat_abs z)) (to_z-of_z c.ranges.asset))
 
 pub returns-else-asset_right : goal.returns-else-asset_right
 returns-else-asset_right c =
-    let e = sym (c.if-asset_right.ensures ∙ ap asset_right (to_z-of_z c.ranges.asset)) in rw (no_rubles c.before.before, e) c.if-asset_right.false
+    let e = sym (c.if-asset_right.ensures ∙ ap asset_right (to_z-of_z c.ranges.asset)) in rw (no_rubles (goal.at.returns-else-asset_right c).Else-is_rubles, e) c.if-asset_right.false

@@ -14,10 +14,10 @@ amount_heard : (c : After-move_amount_right) → let a = c.args in c.move_amount
 amount_heard c = let f = c.ranges in simp (to_z-of_z f.asset, to_z-of_z f.amount) at c.move_amount_right.ensures
 
 pub returns-then-not-can_be_moved : goal.returns-then-not-can_be_moved
-returns-then-not-can_be_moved c = let e = asset_heard c.before in search codes
+returns-then-not-can_be_moved c = let e = asset_heard (goal.at.returns-then-not-can_be_moved c).After-can_be_moved in search codes
 
 pub returns-then-not-move_amount_right : goal.returns-then-not-move_amount_right
-returns-then-not-move_amount_right c = let e = asset_heard c.before.before.before in let f = amount_heard c.before in search codes
+returns-then-not-move_amount_right c = let e = asset_heard (goal.at.returns-then-not-move_amount_right c).After-can_be_moved in let f = amount_heard (goal.at.returns-then-not-move_amount_right c).After-move_amount_right in search codes
 
 pub returns : goal.returns
-returns c = let e = asset_heard c.before.before.before in let f = amount_heard c.before in search codes
+returns c = let e = asset_heard (goal.at.returns c).After-can_be_moved in let f = amount_heard (goal.at.returns c).After-move_amount_right in search codes

@@ -1,12 +1,11 @@
 -- `moving::move_collateral` meets its contract: a code before 10 turns it away, or the move is judged. Assumes nothing.
-use mathlib.Core.Path.{◌≡◌, sym, ap, ◌∙◌, subst}
+use mathlib.Core.Path.{sym, ap, ◌∙◌, subst}
 use Prim.Native.Nat.{ℕ}
 use native.Mathlib.Omega.{arith}
-use lib.IntN.{ℤ, nat_abs}
+use lib.IntN.{nat_abs}
 use mir.Facts.{to_z-of_z}
-use Rattle.whole.specs.Refusals.{first_code}
 use Rattle.whole.proofs.Parameters.{index}
-use Rattle.rates.specs.Lent.{Tables, numbers_of}
+use Rattle.rates.specs.Lent.{numbers_of}
 use Rattle.engine.specs.State.{state}
 use Rattle.engine.specs.Refused.{place_of, move_stands}
 use Rattle.engine.specs.Calls.{outcome_of, judged_move, moving}

@@ -1,5 +1,5 @@
 -- `opening::open` meets its contract: a code turns it away, or the opening is judged. Assumes nothing.
-use mathlib.Core.Path.{◌≡◌, sym, ap, ◌∙◌}
+use mathlib.Core.Path.{sym, ap, ◌∙◌}
 use Prim.Native.Nat.{ℕ}
 use mir.Facts.{to_z-of_z}
 use Rattle.engine.specs.State.{state}

@@ -51,10 +51,10 @@ block_of-block-requires c = let f = c.ranges.account in
     there (place_of c.args.account) (state c.args.book.now) (simp (to_z-of_z f) at c.in_ok-i.ensures.code) _ (at_place f c.in_ok-i.ensures.place)
 
 pub returns-then-number_between-clause-code : goal.returns-then-number_between-clause-code
-returns-then-number_between-clause-code c = of_block c.before.before (code (miss (search codes) (hit (search codes))))
+returns-then-number_between-clause-code c = of_block (goal.at.returns-then-number_between-clause-code c).After-block_of-block (code (miss (search codes) (hit (search codes))))
 
 pub returns-then-not-is_empty-clause-code : goal.returns-then-not-is_empty-clause-code
-returns-then-not-is_empty-clause-code c = of_block c.before.before.before.before (code (hit (search codes)))
+returns-then-not-is_empty-clause-code c = of_block (goal.at.returns-then-not-is_empty-clause-code c).After-block_of-block (code (hit (search codes)))
 
 pub returns-clause-code : goal.returns-clause-code
-returns-clause-code c = of_block c.before.before.before.before (code (miss (search codes) (miss (search codes) none)))
+returns-clause-code c = of_block (goal.at.returns-clause-code c).After-block_of-block (code (miss (search codes) (miss (search codes) none)))

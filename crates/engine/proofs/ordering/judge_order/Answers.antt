@@ -4,7 +4,9 @@ use mathlib.Core.Path.{◌≡◌, sym, ap, ap₂, ◌∙◌, subst}
 use mathlib.Core.List.{List}
 use lib.IntN.{ℤ}
 use mir.Facts.{to_z-of_z}
-use Rattle.rates.specs.Lent.{Tables, numbers_of}
+use Prim.Native.Nat.{ℕ}
+use Rattle.whole.proofs.Machine.{back}
+use Rattle.rates.specs.Lent.{numbers_of}
 use Rattle.book.specs.Changes.{traded}
 use Rattle.book.specs.AtAccount.{at_account}
 use Rattle.book.specs.declared.changes.Trade.{Trade}
@@ -16,33 +18,34 @@ use Rattle.engine.proofs.Judged.{judgeable_booked, reversible, booked_back}
 use Rattle.engine.proofs.Outcomes.{made}
 use Rattle.engine.proofs.Grounds.{first_ground, second_ground}
 use Rattle.engine.proofs.ordering.judge_order.Goals as goal
-use Rattle.engine.proofs.ordering.judge_order.Goals.{After-is_enough, After-limit_at-after, After-trade_in-2, Start}
+use Rattle.engine.proofs.ordering.judge_order.Goals.{After-is_enough, After-trade_in-2}
 
--- what was lent, and the state with the trade booked
-abbrev tables : Start → Tables
-tables s = numbers_of s.args.tables
-
-abbrev after : Start → State
-after s = changed_at s.args.i (λ b. traded b s.args.t) (state s.args.book.now)
+-- the state with the trade booked
+abbrev booked : List ℤ → ℕ → Trade → State
+booked book i t = changed_at i (λ b. traded b t) (state book)
 
 pub trade_in-requires : goal.trade_in-requires
 trade_in-requires c = let p = c.requires in (p.judgeable.there, p.tradable)
 
 pub limit_at-after-requires : goal.limit_at-after-requires
-limit_at-after-requires c = subst (λ (b : List ℤ). Judgeable (tables c.before.before.before) c.args.i (with_book (state c.args.book.now) b)) (sym c.trade_in.ensures) (judgeable_booked _ _ _ _ c.requires)
+limit_at-after-requires c = let a = c.args in
+    subst (λ (b : List ℤ). Judgeable (numbers_of a.tables) a.i (with_book (state a.book.now) b)) (sym c.trade_in.ensures) (judgeable_booked _ _ _ _ c.requires)
 
 -- the limit that is looked at is that of the state with the trade
-limit_after : (c : After-limit_at-after) → c.limit_at-after.result ≡ limit_of (tables c.before.before.before.before) c.args.i (after c.before.before.before.before)
-limit_after c = c.limit_at-after.ensures.0 ∙ ap (λ (b : List ℤ). limit_of (tables c.before.before.before.before) c.args.i (with_book (state c.args.book.now) b)) c.trade_in.ensures
+limit_after : (c : After-is_enough) → let a = c.args in back c.limit_at-after.result ≡ limit_of (numbers_of a.tables) a.i (booked a.book.now a.i a.t)
+limit_after c = let a = c.args in
+    to_z-of_z c.limit_at-after.ensures.1
+    ∙ c.limit_at-after.ensures.0
+    ∙ ap (λ (b : List ℤ). limit_of (numbers_of a.tables) a.i (with_book (state a.book.now) b)) c.trade_in.ensures
 
-admits : (c : After-is_enough) → c.is_enough.result ≡ enough (limit_of (tables c.before.before.before.before.before) c.args.i (after c.before.before.before.before.before))
-admits c = c.is_enough.ensures ∙ ap enough (to_z-of_z c.limit_at-after.ensures.1 ∙ limit_after c.before)
+admits : (c : After-is_enough) → let a = c.args in c.is_enough.result ≡ enough (limit_of (numbers_of a.tables) a.i (booked a.book.now a.i a.t))
+admits c = c.is_enough.ensures ∙ ap enough (limit_after c)
 
 pub returns-then-is_enough : goal.returns-then-is_enough
 unfolding judged_trade
-returns-then-is_enough c = let a = c.args in
-    made (order_judged (tables c.before.before.before.before.before.before) a.i a.t) a.i (λ b. traded b a.t) (state a.book.now) tt
-    (first_ground (tables c.before.before.before.before.before.before) a.i a.t (state a.book.now) (sym (admits c.before) ∙ c.if-is_enough.true)) c.trade_in.ensures
+returns-then-is_enough c = let a = c.args in let t = numbers_of a.tables in let e = admits (goal.at.returns-then-is_enough c).After-is_enough in
+    made (order_judged t a.i a.t) a.i (λ b. traded b a.t) (state a.book.now) tt
+    (first_ground t a.i a.t (state a.book.now) (sym e ∙ c.if-is_enough.true)) c.trade_in.ensures
 
 pub reversed-back-requires : goal.reversed-back-requires
 reversed-back-requires c = c.requires.tradable.ranges
@@ -58,13 +61,15 @@ returned c =
     ∙ booked_back _ _ _ _ c.requires
 
 pub book_if_raised-requires : goal.book_if_raised-requires
-book_if_raised-requires c =
-    subst (λ (b : List ℤ). TradeStands (tables c.before.before.before.before.before.before.before.before.before.before.before) c.args.i (with_book (state c.args.book.now) b) c.args.t) (sym (returned c.before.before)) c.requires
+book_if_raised-requires c = let a = c.args in let e = returned (goal.at.book_if_raised-requires c).After-trade_in-2 in
+    subst (λ (b : List ℤ). TradeStands (numbers_of a.tables) a.i (with_book (state a.book.now) b) a.t) (sym e) c.requires
 
 pub returns : goal.returns
 returns c =
     let a = c.args in
+    let t = numbers_of a.tables in
+    let judged = (goal.at.returns c).After-is_enough in
     c.book_if_raised.ensures
-    ∙ ap₂ (λ (limit : ℤ) (b : List ℤ). outcome_of (raising_trade (tables c.before.before.before.before.before.before.before.before.before.before.before.before.before) a.i a.t limit) (with_book (state a.book.now) b))
-    (to_z-of_z c.limit_at-after.ensures.1 ∙ limit_after c.before.before.before.before.before.before.before.before.before) (returned c.before.before.before.before)
-    ∙ second_ground (tables c.before.before.before.before.before.before.before.before.before.before.before.before.before) a.i a.t (state a.book.now) (sym (admits c.before.before.before.before.before.before.before.before) ∙ c.if-is_enough.false)
+    ∙ ap₂ (λ (limit : ℤ) (b : List ℤ). outcome_of (raising_trade t a.i a.t limit) (with_book (state a.book.now) b)) (limit_after judged)
+    (returned (goal.at.returns c).After-trade_in-2)
+    ∙ second_ground t a.i a.t (state a.book.now) (sym (admits judged) ∙ c.if-is_enough.false)

@@ -1,11 +1,10 @@
 -- `ordering::order` meets its contract: a code before 10 turns it away, or the trade is judged. Assumes nothing.
-use mathlib.Core.Path.{◌≡◌, sym, ap, ap₂, ◌∙◌, subst}
+use mathlib.Core.Path.{sym, ap₂, ◌∙◌, subst}
 use Prim.Native.Nat.{ℕ}
 use mir.Facts.{to_z-of_z}
-use Rattle.whole.specs.Refusals.{first_code}
 use Rattle.book.specs.Choices.{trade_of}
 use Rattle.book.specs.declared.changes.Trade.{Trade}
-use Rattle.rates.specs.Lent.{Tables, numbers_of}
+use Rattle.rates.specs.Lent.{numbers_of}
 use Rattle.engine.specs.State.{state}
 use Rattle.engine.specs.Refused.{place_of, order_stands}
 use Rattle.engine.specs.Calls.{outcome_of, judged_trade, ordering}

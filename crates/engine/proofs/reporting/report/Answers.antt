@@ -1,5 +1,5 @@
 -- `reporting::report` meets its contract: a refusal's code, or the account's figures. Assumes nothing.
-use mathlib.Core.Path.{◌≡◌, sym}
+use mathlib.Core.Path.{sym}
 use Prim.Native.Nat.{ℕ}
 use Rattle.rates.specs.Lent.{numbers_of}
 use Rattle.engine.specs.State.{state}

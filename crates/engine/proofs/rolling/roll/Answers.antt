@@ -1,5 +1,5 @@
 -- `rolling::roll` meets its contract: a code turns it away, or the block is rolled. Assumes nothing.
-use mathlib.Core.Path.{◌≡◌, refl, sym, ap, ◌∙◌}
+use mathlib.Core.Path.{sym, ap, ◌∙◌}
 use mir.Facts.{to_z-of_z}
 use Rattle.book.specs.Roll.{rolled}
 use Rattle.book.specs.AtAccount.{at_account}

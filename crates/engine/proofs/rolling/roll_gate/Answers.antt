@@ -1,7 +1,7 @@
 -- `rolling::roll_gate` meets its contract: codes 1 and 3, 6 and 4 of the block, then 9 of the roll, which a good block may be asked for.
 -- Assumes nothing.
 use mathlib.Core.Path.{◌≡◌, sym, ap, ◌∙◌, subst}
-use mathlib.Core.Bool.{Bool, true, not}
+use mathlib.Core.Bool.{Bool, not}
 use mathlib.Core.List.{List, [], ◌∷◌, ◌++◌}
 use Prim.Native.Nat.{ℕ}
 use lib.IntN.{ℤ}
@@ -9,7 +9,6 @@ use mir.Facts.{to_z-of_z}
 use borrow.Author.Tests.{not-false}
 use Rattle.whole.specs.Refusals.{Refusal, ◌gives◌, first_code, out_of_bounds}
 use Rattle.whole.proofs.Refusals.{none, hit, miss, code, none_holds, follows}
-use Rattle.whole.proofs.Tests.{left, taken}
 use Rattle.book.specs.Rules.{in_bounds}
 use Rattle.book.specs.Roll.{rolled, roll_out}
 use Rattle.book.specs.Ranges.{Bounded}
