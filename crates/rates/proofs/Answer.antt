@@ -7,9 +7,11 @@ use mathlib.Core.List.{[], ◌∷◌}
 use Prim.Native.Nat.{ℕ, ◌+◌, ◌≤◌, ◌<◌}
 use native.Mathlib.Omega.{arith}
 use borrow.Author.Tests.{not-false}
-use Rattle.whole.specs.Marks.{first_false, place_from}
+use Rattle.std.specs.Prelude.{Ok, Err}
+use Rattle.whole.specs.Marks.{first_false, place_from, check_from}
 use Rattle.whole.specs.Refusals.{◌gives◌, first_code, wrong_length, broken_number, laxer_own_row}
-use Rattle.whole.proofs.Marks.{true_before, false_at, all_of, not_all_of, some_false}
+use Rattle.whole.proofs.Marks.{true_before, false_at, not_all_of, some_false}
+use Rattle.whole.proofs.Checks.{ok_says, err_says}
 use Rattle.whole.proofs.Pieces.{in_piece}
 use Rattle.whole.proofs.Refusals.{none_holds}
 use Rattle.rates.specs.Units.{assets, row_length, table_length}
@@ -28,35 +30,31 @@ module _ (tables : Tables) where
   unfolding check_code check_place first_code
   answers_1 e = answer (rw e refl) (rw e refl)
 
-  module _ (right : lengths_right tables ≡ true) {broken : ℕ} (e : broken ≡ first_false (table_marks tables)) where
-    unsound : broken < 2056 → sound_tables tables ≡ false
-    unfolding sound_tables
-    unsound h = not_all_of (table_marks tables) (omega (arith, table_count tables right))
+  -- from the check of the numbers, and then from that of the own rows: Ok, or the place where it stopped
+  pub sound : {v : Unit {0}} → Ok v ≡ check_from 0 (table_marks tables) → sound_tables tables ≡ true
+  unfolding sound_tables
+  sound said = ok_says 0 (table_marks tables) said
 
-    pub sound : 2056 ≤ broken → sound_tables tables ≡ true
-    unfolding sound_tables
-    sound h = all_of (table_marks tables) (omega (arith, table_count tables right))
+  module _ (right : lengths_right tables ≡ true) where
+    pub answers_2 : {place : ℕ} → Err place ≡ check_from 0 (table_marks tables) → ◌≡◌ {A = Checked} (record { code = broken_number; place = place }) (checked tables)
+    unfolding check_code check_place first_code sound_tables
+    answers_2 said =
+        let stop = err_says 0 (table_marks tables) said in
+        let unsound = not_all_of (table_marks tables) stop.inside in
+        answer (rw (right, unsound) refl) (rw (right, unsound) (omega (arith, stop.place_is)))
 
-    pub answers_2 : broken < 2056 → ◌≡◌ {A = Checked} (record { code = broken_number; place = broken }) (checked tables)
-    unfolding check_code check_place first_code
-    answers_2 h = answer (rw (right, unsound h) refl) (rw (right, unsound h) e)
+    module _ (none : sound_tables tables ≡ true) where
+      pub answers_13 : {place : ℕ} → Err place ≡ check_from table_length (stricter_marks tables)
+          → ◌≡◌ {A = Checked} (record { code = laxer_own_row; place = place }) (checked tables)
+      unfolding check_code check_place first_code only_stricter place_from
+      answers_13 said =
+          let stop = err_says table_length (stricter_marks tables) said in
+          let lax = not_all_of (stricter_marks tables) stop.inside in
+          answer (rw (right, none, lax) refl) (rw (right, none, lax) stop.place_is)
 
-    module _ (none : 2056 ≤ broken) {laxer : ℕ} (f : laxer ≡ place_from table_length (stricter_marks tables)) where
-      lax : laxer < 2048 → only_stricter tables ≡ false
-      unfolding only_stricter place_from
-      lax h = not_all_of (stricter_marks tables) (omega (arith, stricter_count tables))
-
-      strict : 2048 ≤ laxer → only_stricter tables ≡ true
-      unfolding only_stricter place_from
-      strict h = all_of (stricter_marks tables) (omega (arith, stricter_count tables))
-
-      pub answers_13 : laxer < 2048 → ◌≡◌ {A = Checked} (record { code = laxer_own_row; place = laxer }) (checked tables)
-      unfolding check_code check_place first_code
-      answers_13 h = answer (rw (right, sound none, lax h) refl) (rw (right, sound none, lax h) f)
-
-      pub answers_0 : 2048 ≤ laxer → ◌≡◌ {A = Checked} (record { code = 0; place = 0 }) (checked tables)
-      unfolding check_code check_place first_code
-      answers_0 h = answer (rw (right, sound none, strict h) refl) (rw (right, sound none, strict h) refl)
+      pub answers_0 : {v : Unit {0}} → Ok v ≡ check_from table_length (stricter_marks tables) → ◌≡◌ {A = Checked} (record { code = 0; place = 0 }) (checked tables)
+      unfolding check_code check_place first_code only_stricter
+      answers_0 said = let strict = ok_says table_length (stricter_marks tables) said in answer (rw (right, none, strict) refl) (rw (right, none, strict) refl)
 
   -- ---- what code 0 says
   pub code_0_says : check_code tables ≡ 0 → (lengths_right tables ≡ true) × (sound_tables tables ≡ true) × (only_stricter tables ≡ true)

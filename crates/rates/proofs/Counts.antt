@@ -92,7 +92,7 @@ module _ (own clearing : List ℤ) where
   unfolding stricter_row
   stricter_row_count = simp length-append (omega (arith, stricter_terms_count, stricter_rates_count, stricter_limits_count, stricter_dates_count))
 
-  stricter_own_count : length (stricter_own_row own clearing) ≡ row_length
+  pub stricter_own_count : length (stricter_own_row own clearing) ≡ row_length
   unfolding stricter_own_row
   stricter_own_count = either (absent own) (replicate row_length true) (stricter_row own clearing) row_length refl stricter_row_count
 

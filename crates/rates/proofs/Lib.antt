@@ -1,5 +1,6 @@
 -- Laws of a row's rules, of the tables, and of what the table check gives; and computed examples.
 pub mod Counts
+pub mod RowParts
 pub mod Answer
 pub mod DateRanges
 pub mod Ranges

@@ -9,19 +9,21 @@ use lib.IntN.{ℤ, pos}
 use lib.ListN.{length, drop}
 use lib.Dec.{eqb}
 use borrow.Author.Tests.{eqb-true}
+use Rattle.std.specs.Prelude.{Result, Ok, Err}
+use Rattle.std.specs.Result.{is_err}
 use Rattle.whole.specs.Parts.{number}
 use Rattle.whole.specs.Bounds.{between, ◌upto◌, is_zero}
-use Rattle.whole.specs.Marks.{first_false, all_true}
+use Rattle.whole.specs.Marks.{all_true, check_from}
+use Rattle.whole.proofs.Checks.{ok_says, err_says}
 use Rattle.whole.proofs.Rules.{ints}
 use Rattle.whole.proofs.Bounds.{amid, equal_says, upto_by}
 use Rattle.whole.proofs.Tests.{and_left, and_right, true_not_false}
-use Rattle.whole.proofs.Marks.{all_of, not_all_of, all_at, all_left, all_right, all_piece, all_numbers}
+use Rattle.whole.proofs.Marks.{not_all_of, all_at, all_left, all_right, all_piece, all_numbers}
 use Rattle.rates.specs.Units.{the_whole, row_length, dates}
 use Rattle.rates.specs.Row.{unlisted, price, base_rate, raised_rate}
 use Rattle.rates.specs.Rules.{term_marks, rate_marks, limit_marks, date_marks, listed_marks, row_marks}
 use Rattle.rates.specs.InForce.{sound_row}
 use Rattle.rates.specs.Ranges.{SideRanges, RowRanges}
-use Rattle.rates.proofs.Counts.{row_count}
 use Rattle.rates.proofs.DateRanges.{date_ranges, side_ranges}
 
 module _ (row : List ℤ) where
@@ -102,14 +104,16 @@ module _ (row : List ℤ) where
         }
 
 -- ---- any row
-module _ (row : List ℤ) (long : length row ≡ row_length) (r : ℕ) (e : r ≡ first_false (row_marks row)) where
-  pub sound_by : row_length ≤ r → sound_row row ≡ true
+module _ (row : List ℤ) (long : length row ≡ row_length) where
+  pub sound_by : (r : Result (Unit {0}) ℕ) → r ≡ check_from 0 (row_marks row) → is_err r ≡ false → sound_row row ≡ true
   unfolding sound_row
-  sound_by h = rw long (all_of (row_marks row) (omega (arith, row_count row long)))
+  sound_by (Ok v) e h = rw long (ok_says 0 (row_marks row) e)
+  sound_by (Err k) e h = true_not_false (sym h)
 
-  pub broken_by : r < row_length → sound_row row ≡ false
+  pub broken_by : (r : Result (Unit {0}) ℕ) → r ≡ check_from 0 (row_marks row) → is_err r ≡ true → sound_row row ≡ false
   unfolding sound_row
-  broken_by h = rw long (not_all_of (row_marks row) (omega (arith, row_count row long)))
+  broken_by (Ok v) e h = true_not_false h
+  broken_by (Err k) e h = rw long (not_all_of (row_marks row) (err_says 0 (row_marks row) e).inside)
 
 pub row_ranges : (row : List ℤ) → sound_row row ≡ true → RowRanges row
 unfolding sound_row row_marks

@@ -4,6 +4,7 @@ ghost use Rattle.rates.specs.Row.{highest_rate};
 ghost use Rattle.rates.specs.InForce.{outer_width, sound_row, cover_test};
 ghost use Rattle.rates.specs.Ranges.{RowRanges};
 
+use crate::in_row::Row;
 use crate::{in_row, row, units};
 
 // The cover test.
@@ -16,7 +17,7 @@ const OUTER_LOW: usize = in_row::DATES + in_row::OUTER_LOW;
 const OUTER_UP: usize = in_row::DATES + in_row::OUTER_UP;
 
 // The greater distance of date 0's outer numbers from its mid.
-fn outer_width(row: &[i64]) -> i64
+fn outer_width(row: &Row) -> i64
     requires { RowRanges row.now }
     ensures { (result ≡ outer_width row.now 0) × (result upto 10000000) }
 {
@@ -25,7 +26,7 @@ fn outer_width(row: &[i64]) -> i64
 }
 
 // The highest rate that a unit of a side can be charged.
-fn highest_rate(row: &[i64], side: usize) -> i64
+fn highest_rate(row: &Row, side: usize) -> i64
     requires { RowRanges row.now × (side < 2) }
     ensures { (result ≡ highest_rate row.now side) × (result upto 10000) }
 {
@@ -33,7 +34,7 @@ fn highest_rate(row: &[i64], side: usize) -> i64
 }
 
 // 10,000 × (price + mid of date 0 − w) ≥ highest rate of a fall × price, of a listed row in its ranges.
-fn passes(row: &[i64]) -> bool
+fn passes(row: &Row) -> bool
     requires { RowRanges row.now }
     ensures { result ≡ cover_test row.now }
 {
@@ -50,10 +51,10 @@ fn passes(row: &[i64]) -> bool
 pub fn covers(row: &[i64]) -> bool
     ensures { result ≡ sound_row row.now && cover_test row.now }
 {
-    if row.len() != in_row::LENGTH {
+    let Some(row) = row.as_array() else {
         return false;
-    }
-    if row::broken_number(row) < in_row::LENGTH {
+    };
+    if row::check_row(row).is_err() {
         return false;
     }
     passes(row)

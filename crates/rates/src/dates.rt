@@ -1,20 +1,23 @@
-ghost use Rattle.std.specs.Prelude.{◌≡◌, ◌<◌, pos, ◌+ℤ◌, ◌-ℤ◌, length};
+ghost use Rattle.std.specs.Prelude.{◌≡◌, ◌+◌, ◌*◌, ◌<◌, pos, ◌+ℤ◌, ◌-ℤ◌};
 ghost use Rattle.std.specs.Int.Signed.{le_z};
 ghost use Rattle.whole.specs.Parts.{number};
 ghost use Rattle.whole.specs.Bounds.{between, ◌within◌, ◌upto◌};
-ghost use Rattle.whole.specs.Marks.{first_false, place_from, all_true, pieces};
+ghost use Rattle.whole.specs.Marks.{check_from, all_true, pieces};
 ghost use Rattle.rates.specs.Units.{ten_million, row_length, dates};
 ghost use Rattle.rates.specs.Row.{dates_at, price, level};
 ghost use Rattle.rates.specs.Rules.{date_marks};
 
+use crate::in_row::Row;
+use crate::pieces::each;
+use crate::row::holds;
 use crate::{in_row, units};
 
 // The rules of a row's dates, five numbers each, the mid first. The price is right where they are looked at, and of a date the mid comes
 // first; so price + mid is never taken of a mid that could make it wrap, and the others are measured from a mid within 10^7 of 0.
 
 // Whether price + mid of date d lies from 0 to 10^7, asked of the mid.
-fn level_right(row: &[i64], d: usize) -> bool
-    requires { (length row.now ≡ row_length) × (d < dates) × (price row.now upto 10000000) }
+fn level_right(row: &Row, d: usize) -> bool
+    requires { (d < dates) × (price row.now upto 10000000) }
     ensures { result ≡ between (pos 0) (level row.now d) ten_million }
 {
     let price = row[in_row::PRICE];
@@ -26,48 +29,42 @@ fn level_right(row: &[i64], d: usize) -> bool
 }
 
 // Whether number k lies from mid − 10^7 to number j.
-fn below_mid(row: &[i64], mid: usize, k: usize, j: usize) -> bool
-    requires { (mid < length row.now) × (k < length row.now) × (j < length row.now) × (number row.now mid within 10000000) }
+fn below_mid(row: &Row, mid: usize, k: usize, j: usize) -> bool
+    requires { (mid < row_length) × (k < row_length) × (j < row_length) × (number row.now mid within 10000000) }
     ensures { result ≡ between (number row.now mid -ℤ ten_million) (number row.now k) (number row.now j) }
 {
     whole::lies_between(row[mid] - units::TEN_MILLION, row[k], row[j])
 }
 
 // Whether number k lies from number j to mid + 10^7.
-fn above_mid(row: &[i64], mid: usize, j: usize, k: usize) -> bool
-    requires { (mid < length row.now) × (j < length row.now) × (k < length row.now) × (number row.now mid within 10000000) }
+fn above_mid(row: &Row, mid: usize, j: usize, k: usize) -> bool
+    requires { (mid < row_length) × (j < row_length) × (k < row_length) × (number row.now mid within 10000000) }
     ensures { result ≡ between (number row.now j) (number row.now k) (number row.now mid +ℤ ten_million) }
 {
     whole::lies_between(row[j], row[k], row[mid] + units::TEN_MILLION)
 }
 
-// The first broken number of date d, from 0, or 5.
-fn broken_date(row: &[i64], d: usize) -> usize
-    requires { (length row.now ≡ row_length) × (d < dates) × (price row.now upto 10000000) }
-    ensures { result ≡ first_false (date_marks row.now d) }
+// Which number of date d breaks a rule.
+#[tactic(auto, unfolding(whole::specs::Marks::check_from, crate::specs::Rules::date_marks))]
+fn check_numbers(row: &Row, d: usize) -> Result<(), usize>
+    requires { (d < dates) × (price row.now upto 10000000) }
+    ensures { result ≡ check_from (dates_at + 5 * d) (date_marks row.now d) }
 {
     let mid = in_row::DATES + in_row::DATE_LENGTH * d;
-    if !level_right(row, d) {
-        return in_row::MID;
-    }
-    if !below_mid(row, mid, mid + in_row::LOW, mid) {
-        return in_row::LOW;
-    }
-    if !above_mid(row, mid, mid, mid + in_row::UP) {
-        return in_row::UP;
-    }
-    if !below_mid(row, mid, mid + in_row::OUTER_LOW, mid + in_row::LOW) {
-        return in_row::OUTER_LOW;
-    }
-    if !above_mid(row, mid, mid + in_row::UP, mid + in_row::OUTER_UP) {
-        return in_row::OUTER_UP;
-    }
-    in_row::DATE_LENGTH
+    let low = mid + in_row::LOW;
+    let up = mid + in_row::UP;
+    let outer_low = mid + in_row::OUTER_LOW;
+    let outer_up = mid + in_row::OUTER_UP;
+    holds(level_right(row, d), mid)?;
+    holds(below_mid(row, mid, low, mid), low)?;
+    holds(above_mid(row, mid, mid, up), up)?;
+    holds(below_mid(row, mid, outer_low, low), outer_low)?;
+    holds(above_mid(row, mid, up, outer_up), outer_up)
 }
 
 // Whether number j is no greater than number k.
-fn in_order(row: &[i64], j: usize, k: usize) -> bool
-    requires { (j < length row.now) × (k < length row.now) }
+fn in_order(row: &Row, j: usize, k: usize) -> bool
+    requires { (j < row_length) × (k < row_length) }
     ensures { result ≡ le_z (number row.now j) (number row.now k) }
 {
     row[j] <= row[k]
@@ -75,8 +72,8 @@ fn in_order(row: &[i64], j: usize, k: usize) -> bool
 
 // Whether date d keeps its rules, asked of every date and so with as few tests as say it: outer low, low, mid, up and outer up stand in this order, and where
 // the outer two are near enough to the mid the inner two are.
-fn date_right(row: &[i64], d: usize) -> bool
-    requires { (length row.now ≡ row_length) × (d < dates) × (price row.now upto 10000000) }
+fn date_right(row: &Row, d: usize) -> bool
+    requires { (d < dates) × (price row.now upto 10000000) }
     ensures { result ≡ all_true (date_marks row.now d) }
 {
     let mid = in_row::DATES + in_row::DATE_LENGTH * d;
@@ -89,17 +86,22 @@ fn date_right(row: &[i64], d: usize) -> bool
         & above_mid(row, mid, mid + in_row::UP, mid + in_row::OUTER_UP)
 }
 
-// The first broken number of the eight dates, or the place past the last of them.
-pub(crate) fn broken_dates(row: &[i64]) -> usize
-    requires { (length row.now ≡ row_length) × (price row.now upto 10000000) }
-    ensures { result ≡ place_from dates_at (pieces (date_marks row.now) 0 dates) }
+// Date d. It is nearly always right, so which number is broken is asked only where it is not.
+#[tactic(auto, using(whole::proofs::Checks::ok_by))]
+fn check_date(row: &Row, d: usize) -> Result<(), usize>
+    requires { (d < dates) × (price row.now upto 10000000) }
+    ensures { result ≡ check_from (dates_at + 5 * d) (date_marks row.now d) }
 {
-    let mut d = 0;
-    while d < units::DATE_COUNT {
-        if !date_right(row, d) {
-            return in_row::DATES + in_row::DATE_LENGTH * d + broken_date(row, d);
-        }
-        d += 1;
+    if date_right(row, d) {
+        return Ok(());
     }
-    in_row::REST
+    check_numbers(row, d)
+}
+
+// The eight dates.
+pub(crate) fn check_dates(row: &Row) -> Result<(), usize>
+    requires { price row.now upto 10000000 }
+    ensures { result ≡ check_from dates_at (pieces (date_marks row.now) 0 dates) }
+{
+    each(units::DATE_COUNT, |d| check_date(row, d))
 }

@@ -3,7 +3,7 @@ ghost use Rattle.rates.specs.Units.{assets, table_length};
 ghost use Rattle.rates.specs.Tables.{listed};
 ghost use Rattle.rates.specs.InForce.{in_force, lookup, StandsIn, PresentByKind};
 
-use crate::{in_row, row, units};
+use crate::{in_row, row, tables, units};
 
 // Which row of the two tables is in force, and whether an asset is listed.
 
@@ -22,7 +22,7 @@ pub fn row_in_force<'a>(clearing: &'a [i64], own: &'a [i64], asset: usize) -> &'
         return &clearing[0..0];
     }
     let at = in_row::LENGTH * asset;
-    if !row::is_absent(&own[at..at + in_row::LENGTH]) {
+    if !row::is_absent(tables::row_of(own, asset)) {
         return &own[at..at + in_row::LENGTH];
     }
     &clearing[at..at + in_row::LENGTH]

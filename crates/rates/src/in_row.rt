@@ -3,6 +3,8 @@
 // Numbers of a row.
 pub const LENGTH: usize = 64;
 
+pub type Row = [i64; LENGTH];
+
 // 1 security, 2 currency or metal, 3 commodity, 0 unlisted.
 pub const KIND: usize = 0;
 

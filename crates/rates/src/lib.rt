@@ -4,6 +4,7 @@ mod cover;
 mod dates;
 mod in_force;
 pub mod in_row;
+mod pieces;
 mod row;
 mod stricter;
 mod tables;

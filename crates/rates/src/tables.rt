@@ -1,17 +1,22 @@
-ghost use Rattle.std.specs.Prelude.{◌≡◌, true, length};
-ghost use Rattle.whole.specs.Marks.{first_false, place_from, all_true, pieces};
+ghost use Rattle.std.specs.Prelude.{◌≡◌, true, ◌+◌, ◌*◌, ◌<◌, ◌^◌, length, IfErr, List, Bool};
+ghost use Rattle.whole.specs.Marks.{check_from, all_true, pieces};
 ghost use Rattle.rates.specs.Units.{assets, row_length, table_length, group_count};
 ghost use Rattle.rates.specs.Lent.{given, numbers_of};
 ghost use Rattle.rates.specs.Faults.{refusal_of, fault_place, checked_as};
-ghost use Rattle.rates.specs.Tables.{own_kind_right, own_row_marks, clearing_marks, own_marks, table_marks, sound_own};
-ghost use Rattle.rates.specs.Tables.{stricter_own_row, stricter_at, lengths_right, checked};
+ghost use Rattle.rates.specs.Tables.{row_of, own_kind_right, own_row_marks, clearing_marks, own_marks, table_marks, sound_own};
+ghost use Rattle.rates.specs.Tables.{stricter_own_row, stricter_at, checked};
 
-use crate::units::{GROUPS, OWN, PLACES};
-use crate::{in_row, row, stricter, units};
+use crate::in_row::Row;
+use crate::pieces::each;
+use crate::row::holds;
+use crate::stricter::OwnRow;
+use crate::units::{GROUPS, Groups, OWN, Table};
+use crate::{in_row, row, units};
 use whole::Refusal;
 
-// The table check: the clearing table row by row, then the own table, each own row beside its clearing row, then the groups. It ends at the first row or
-// percent that breaks a rule. Where none does, each own row that is present is compared with its clearing row, up to the first that is laxer.
+// The table check: the clearing table row by row, then the own table, each own row beside its clearing row, then the groups. It ends at the first number
+// that breaks a rule. Where none does, each own row that is present is compared with its clearing row, up to the first number that is laxer. Each check
+// answers Ok, or the place of that number.
 
 // What a call is lent to read: the clearing table, the own table and the groups, of any lengths and any numbers.
 #[derive(Clone, Copy)]
@@ -54,149 +59,142 @@ impl Fault {
     }
 }
 
+// The row of an asset.
+pub(crate) fn row_of(table: &[i64], asset: usize) -> &Row
+    requires { (length table.now ≡ table_length) × (asset < assets) }
+    ensures { result.now ≡ row_of table.now asset }
+{
+    let at = in_row::LENGTH * asset;
+    table[at..at + in_row::LENGTH].as_array().unwrap()
+}
+
+// The own row of an asset, and the clearing row that it stands over.
+fn own_row_of<'a>(clearing: &'a Table, own: &'a Table, asset: usize) -> OwnRow<'a>
+    requires { asset < assets }
+    ensures { (result.own.now ≡ row_of own.now asset) × (result.clearing.now ≡ row_of clearing.now asset) }
+{
+    OwnRow {
+        own: row_of(own, asset),
+        clearing: row_of(clearing, asset),
+    }
+}
+
+// What a check of a row answers, told of its table, in which the row starts at place `at`.
+fn told_from(at: usize, answer: Result<(), usize>) -> Result<(), usize>
+    requires { (at < 2 ^ 63) × IfErr answer (λ k. k < row_length) }
+    ensures { (marks : List Bool) → answer ≡ check_from 0 marks → result ≡ check_from at marks }
+{
+    answer.map_err(|k| at + k)
+}
+
+// The clearing row of an asset. One that is not there breaks no rule and is passed by.
+fn check_clearing_row(clearing: &Table, asset: usize) -> Result<(), usize>
+    requires { asset < assets }
+    ensures { result ≡ check_from (row_length * asset) (clearing_marks clearing.now asset) }
+{
+    let row = row_of(clearing, asset);
+    if row::is_absent(row) {
+        return Ok(());
+    }
+    told_from(in_row::LENGTH * asset, row::check_row(row))
+}
+
+// The clearing table.
+fn check_clearing(clearing: &Table) -> Result<(), usize>
+    ensures { result ≡ check_from 0 (pieces (clearing_marks clearing.now) 0 assets) }
+{
+    each(
+        units::ASSET_COUNT,
+        |asset| check_clearing_row(clearing, asset),
+    )
+}
+
 // Whether the clearing row is listed and the own row has its kind.
-fn own_kind_right(own: &[i64], clearing: &[i64]) -> bool
-    requires { (length own.now ≡ row_length) × (length clearing.now ≡ row_length) }
-    ensures { result ≡ own_kind_right own.now clearing.now }
+#[tactic(auto, using(whole::proofs::Bounds::same_bits, whole::proofs::Bounds::same_literal), unfolding(crate::specs::Tables::own_kind_right))]
+fn own_kind_right(rows: OwnRow<'_>) -> bool
+    ensures { result ≡ own_kind_right rows.entry.own.now rows.entry.clearing.now }
 {
-    if !whole::number_is(own, in_row::KIND, clearing[in_row::KIND]) {
-        return false;
-    }
-    !whole::number_is(clearing, in_row::KIND, 0)
+    rows.own[in_row::KIND] == rows.clearing[in_row::KIND] && rows.clearing[in_row::KIND] != 0
 }
 
-// The first broken number of an own row beside its clearing row, or 64.
-fn broken_own_row(own: &[i64], clearing: &[i64]) -> usize
-    requires { (length own.now ≡ row_length) × (length clearing.now ≡ row_length) }
-    ensures { result ≡ first_false (own_row_marks own.now clearing.now) }
+// An own row beside its clearing row. One that is not there breaks no rule.
+#[tactic(auto, unfolding(whole::specs::Marks::check_from, crate::specs::Tables::own_row_marks))]
+fn check_beside(rows: OwnRow<'_>) -> Result<(), usize>
+    ensures { result ≡ check_from 0 (own_row_marks rows.entry.own.now rows.entry.clearing.now) }
 {
-    if row::is_absent(own) {
-        return in_row::LENGTH;
+    if row::is_absent(rows.own) {
+        return Ok(());
     }
-    if !own_kind_right(own, clearing) {
-        return in_row::KIND;
-    }
-    row::broken_number(own)
+    holds(own_kind_right(rows), in_row::KIND)?;
+    row::check_row(rows.own)
 }
 
-// The first broken place of the clearing table, or the place past it. A row that is not there breaks no rule and is passed by.
-fn broken_clearing(clearing: &[i64]) -> usize
-    requires { length clearing.now ≡ table_length }
-    ensures { result ≡ place_from 0 (pieces (clearing_marks clearing.now) 0 assets) }
+// The own row of an asset.
+fn check_own_row(clearing: &Table, own: &Table, asset: usize) -> Result<(), usize>
+    requires { asset < assets }
+    ensures { result ≡ check_from (table_length + row_length * asset) (own_marks clearing.now own.now asset) }
 {
-    let mut a = 0;
-    while a < units::ASSET_COUNT {
-        let at = in_row::LENGTH * a;
-        if row::is_absent(&clearing[at..at + in_row::LENGTH]) {
-            a += 1;
-            continue;
-        }
-        let broken = row::broken_number(&clearing[at..at + in_row::LENGTH]);
-        if broken < in_row::LENGTH {
-            return at + broken;
-        }
-        a += 1;
-    }
-    OWN
+    let rows = own_row_of(clearing, own, asset);
+    told_from(OWN + in_row::LENGTH * asset, check_beside(rows))
 }
 
-// The first broken place of the own table, or the place past it.
-fn broken_own(clearing: &[i64], own: &[i64]) -> usize
-    requires { (length clearing.now ≡ table_length) × (length own.now ≡ table_length) }
-    ensures { result ≡ place_from table_length (pieces (own_marks clearing.now own.now) 0 assets) }
+// The own table.
+fn check_own(clearing: &Table, own: &Table) -> Result<(), usize>
+    ensures { result ≡ check_from table_length (pieces (own_marks clearing.now own.now) 0 assets) }
 {
-    let mut a = 0;
-    while a < units::ASSET_COUNT {
-        let at = in_row::LENGTH * a;
-        let broken = broken_own_row(
-            &own[at..at + in_row::LENGTH],
-            &clearing[at..at + in_row::LENGTH],
-        );
-        if broken < in_row::LENGTH {
-            return OWN + at + broken;
-        }
-        a += 1;
-    }
-    GROUPS
+    each(
+        units::ASSET_COUNT,
+        |asset| check_own_row(clearing, own, asset),
+    )
 }
 
-// The first broken place of tables and groups of the right lengths, or the count of the places.
-fn broken_place(clearing: &[i64], own: &[i64], groups: &[i64]) -> usize
-    requires { (length clearing.now ≡ table_length) × (length own.now ≡ table_length) × (length groups.now ≡ group_count) }
-    ensures { result ≡ first_false (table_marks (given clearing own groups)) }
+// The tables and the groups, number by number.
+fn check_numbers(clearing: &Table, own: &Table, groups: &Groups) -> Result<(), usize>
+    ensures { result ≡ check_from 0 (table_marks (given clearing own groups)) }
 {
-    let in_clearing = broken_clearing(clearing);
-    if in_clearing < OWN {
-        return in_clearing;
-    }
-    let in_own = broken_own(clearing, own);
-    if in_own < GROUPS {
-        return in_own;
-    }
-    GROUPS + whole::first_outside(groups, 0, units::MOST_PERCENT)
+    check_clearing(clearing)?;
+    check_own(clearing, own)?;
+    whole::check_between(GROUPS, groups, 0, units::MOST_PERCENT)
 }
 
-// The first laxer number of an own row that keeps its rules, or 64. Such a row is absent exactly where it has no kind, so one number is asked.
-fn laxer_own_row(own: &[i64], clearing: &[i64]) -> usize
-    requires { (length own.now ≡ row_length) × (length clearing.now ≡ row_length) × (all_true (own_row_marks own.now clearing.now) ≡ true) }
-    ensures { result ≡ first_false (stricter_own_row own.now clearing.now) }
+// An own row that keeps its rules. Such a row is absent exactly where it has no kind, so one number is asked.
+fn stricter_where_present(rows: OwnRow<'_>) -> Result<(), usize>
+    requires { all_true (own_row_marks rows.own.now rows.clearing.now) ≡ true }
+    ensures { result ≡ check_from 0 (stricter_own_row rows.entry.own.now rows.entry.clearing.now) }
 {
-    if whole::number_is(own, in_row::KIND, 0) {
-        return in_row::LENGTH;
+    if rows.own[in_row::KIND] == 0 {
+        return Ok(());
     }
-    stricter::laxer_number(own, clearing)
+    rows.stricter()
 }
 
-// The first laxer place of an own table whose rows keep their rules, or the place past it.
-fn laxer_own(clearing: &[i64], own: &[i64]) -> usize
-    requires { (length clearing.now ≡ table_length) × (length own.now ≡ table_length) × (sound_own clearing.now own.now ≡ true) }
-    ensures { result ≡ place_from table_length (pieces (stricter_at clearing.now own.now) 0 assets) }
+// The own row of an asset, which keeps its rules.
+fn stricter_at(clearing: &Table, own: &Table, asset: usize) -> Result<(), usize>
+    requires { (asset < assets) × (sound_own clearing.now own.now ≡ true) }
+    ensures { result ≡ check_from (table_length + row_length * asset) (stricter_at clearing.now own.now asset) }
 {
-    let mut a = 0;
-    while a < units::ASSET_COUNT {
-        let at = in_row::LENGTH * a;
-        let laxer = laxer_own_row(
-            &own[at..at + in_row::LENGTH],
-            &clearing[at..at + in_row::LENGTH],
-        );
-        if laxer < in_row::LENGTH {
-            return OWN + at + laxer;
-        }
-        a += 1;
-    }
-    GROUPS
+    let rows = own_row_of(clearing, own, asset);
+    told_from(OWN + in_row::LENGTH * asset, stricter_where_present(rows))
 }
 
-// Whether tables and groups have their lengths.
-fn lengths_right(clearing: &[i64], own: &[i64], groups: &[i64]) -> bool
-    ensures { result ≡ lengths_right (given clearing own groups) }
+// An own table whose rows keep their rules.
+fn check_stricter(clearing: &Table, own: &Table) -> Result<(), usize>
+    requires { sound_own clearing.now own.now ≡ true }
+    ensures { result ≡ check_from table_length (pieces (stricter_at clearing.now own.now) 0 assets) }
 {
-    if clearing.len() != units::TABLE_LENGTH {
-        return false;
-    }
-    if own.len() != units::TABLE_LENGTH {
-        return false;
-    }
-    groups.len() == units::GROUP_COUNT
+    each(
+        units::ASSET_COUNT,
+        |asset| stricter_at(clearing, own, asset),
+    )
 }
 
 // The table check: a wrong length, the place of the first broken number, or that of the first laxer one.
 pub fn check_tables(tables: Tables<'_>) -> Result<(), Fault>
     ensures { checked_as result ≡ checked (numbers_of tables.entry) }
 {
-    let clearing = tables.clearing;
-    let own = tables.own;
-    let groups = tables.groups;
-    if !lengths_right(clearing, own, groups) {
-        return Err(Fault::WrongLength);
-    }
-    let broken = broken_place(clearing, own, groups);
-    if broken < PLACES {
-        return Err(Fault::BrokenNumber(broken));
-    }
-    let laxer = laxer_own(clearing, own);
-    if laxer < GROUPS {
-        return Err(Fault::LaxerOwnRow(laxer));
-    }
-    Ok(())
+    let clearing: &Table = tables.clearing.as_array().ok_or(Fault::WrongLength)?;
+    let own: &Table = tables.own.as_array().ok_or(Fault::WrongLength)?;
+    let groups: &Groups = tables.groups.as_array().ok_or(Fault::WrongLength)?;
+    check_numbers(clearing, own, groups).map_err(Fault::BrokenNumber)?;
+    check_stricter(clearing, own).map_err(Fault::LaxerOwnRow)
 }

@@ -20,6 +20,11 @@ pub const GROUP_COUNT: usize = 8;
 // Numbers of a table.
 pub const TABLE_LENGTH: usize = in_row::LENGTH * ASSET_COUNT;
 
+pub type Table = [i64; TABLE_LENGTH];
+
+// The discount percent of each group.
+pub type Groups = [i64; GROUP_COUNT];
+
 // Places of the table check: the clearing table from 0 on, the own table, the groups, and their count.
 pub const OWN: usize = TABLE_LENGTH;
 

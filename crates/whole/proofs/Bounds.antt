@@ -1,15 +1,16 @@
 -- Laws of the bounds, and what the test `between` says. Assumes nothing.
-use mathlib.Core.Path.{◌≡◌, refl, sym, ap, subst}
+use mathlib.Core.Path.{◌≡◌, refl, sym, ap, ◌∙◌, subst}
 use mathlib.Core.Bool.{Bool, true, false, ◌&&◌}
 use mathlib.Core.Logic.{◌≢◌}
 use Prim.Native.Nat.{ℕ, ◌*◌, ◌≤◌, ◌<◌, ◌^◌}
 use native.Mathlib.Omega.{arith}
-use lib.Dec.{T}
+use lib.Dec.{T, eqb}
 use lib.IntN.{ℤ, pos, nat_abs, ◌*ℤ◌}
 use lib.Signed.{le_z, ◌≤ℤ◌}
 use native.Mathlib.Nat.{mul-le-mul}
+use borrow.Author.Tests.{eqb-true, eq-eqb}
 use mir.Syntax.{w64}
-use mir.Val.{SFits}
+use mir.Val.{SFits, of_z, to_z}
 use mir.Facts.{to_z-of_z}
 use Rattle.whole.specs.Bounds.{between, equal, ◌within◌, ◌upto◌}
 use Rattle.whole.proofs.PlusMinus.{abs_is, one_is_zero}
@@ -99,3 +100,15 @@ between_back f g h = simp (to_z-of_z f, to_z-of_z g, to_z-of_z h)
 
 pub equal_back : (x : ℤ) {y : ℤ} → SFits w64 y → equal x (back y) ≡ equal x y
 equal_back x f = ap (λ (z : ℤ). equal x z) (to_z-of_z f)
+
+-- two numbers that fit are one exactly where their bits are
+pub same_bits : {x y : ℤ} → SFits w64 x → SFits w64 y → eqb (of_z w64 x) (of_z w64 y) ≡ equal x y
+same_bits {x} {y} f g = by (eqb (of_z w64 x) (of_z w64 y)) (equal x y) refl refl
+  where
+    by : (a b : Bool) → eqb (of_z w64 x) (of_z w64 y) ≡ a → equal x y ≡ b → a ≡ b
+    by true b e h = sym (equal_yes (sym (to_z-of_z f) ∙ ap (to_z w64) (eqb-true (of_z w64 x) (of_z w64 y) e) ∙ to_z-of_z g)) ∙ h
+    by false true e h = sym e ∙ eq-eqb (of_z w64 x) (of_z w64 y) (ap (of_z w64) (equal_says h))
+    by false false e h = refl
+
+pub same_literal : {x : ℤ} (n : ℕ) → n < 2 ^ 63 → SFits w64 x → eqb (of_z w64 x) n ≡ equal x (pos n)
+same_literal n l f = same_bits f (record { sfits = l })

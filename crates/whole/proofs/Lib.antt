@@ -13,6 +13,7 @@ pub mod Parts
 pub mod Laid
 pub mod Tests
 pub mod Marks
+pub mod Checks
 pub mod Pieces
 pub mod Refusals
 pub mod Tabulated

@@ -11,7 +11,7 @@ use lib.ListN.{length, take, drop, get_or, set, drop_of_length-le}
 use lib.Seq.{drop-cons, drop-set-add, drop-set-lt, take-set-lt, take-set-le}
 use Rattle.whole.specs.Parts.{part, put}
 use Rattle.whole.specs.Marks.{all_true}
-use Rattle.whole.proofs.Tests.{and_left, and_right, both}
+use Rattle.whole.proofs.Tests.{and_left, and_right, both, second_out}
 
 pub and-true : (a : Bool) → a && true ≡ a
 and-true true = refl
@@ -91,6 +91,12 @@ module _ {A : Type 0} (f : A → Bool) where
   unfolding all_true
   all_by z [] h = refl
   all_by z (x ∷ s) h = both (f x) (all s) (h 0 (omega arith)) (all_by z s (λ k l. h (suc k) (omega arith)))
+
+  pub not_all : (z : A) (s : List A) (k : ℕ) → k < length s → f (get_or s k z) ≡ false → all s ≡ false
+  unfolding all_true
+  not_all z [] k h e = absurd (omega arith)
+  not_all z (x ∷ s) zero h e = rw e refl
+  not_all z (x ∷ s) (suc k) h e = second_out (f x) (all s) (not_all z s k (omega arith) e)
 
   -- a loop over the numbers: what is left from number i on
   module _ (z : A) (s : List A) (i : ℕ) where

@@ -68,23 +68,6 @@ pieces_length f size i (suc n) h =
     length-append (f i) (pieces f (suc i) n)
     ∙ omega (arith, h i (omega arith), pieces_length f size (suc i) n (λ d l. h d (omega arith)), mul-suc size n)
 
--- ---- a loop over the numbers of a list, each with the mark f: what is left from number i on
-module _ {A : Type 0} (z : A) (f : A → Bool) (s : List A) where
-  abbrev pub from_number : ℕ → ℕ
-  from_number i = i + first_false (map f (drop i s))
-
-  pub number_right : (i : ℕ) → i < length s → f (get_or s i z) ≡ true → from_number i ≡ from_number (i + 1)
-  unfolding first_false
-  number_right i h e = rw (add-one i, drop-cons s i z h, e) (omega arith)
-
-  pub number_wrong : (i : ℕ) → i < length s → f (get_or s i z) ≡ false → from_number i ≡ i
-  unfolding first_false
-  number_wrong i h e = rw (drop-cons s i z h, e) (omega arith)
-
-  pub numbers_end : (i : ℕ) → length s ≤ i → from_number i ≡ i
-  unfolding first_false
-  numbers_end i h = rw (drop_of_length-le s h) (omega arith)
-
 -- ---- a loop over n pieces of one size, whose first mark stands at place k: d of them were passed
 pub record Passed (marks : ℕ → List Bool) (k size n d : ℕ) : Type 0 where
   pub inside : d ≤ n

@@ -1,13 +1,17 @@
 -- Laws of ℤ that the library lacks: the ring, the order, and the size.
 -- Assumes nothing.
 use mathlib.Core.Path.{◌≡◌, refl}
+use mathlib.Core.Bool.{Bool, true, false, not, cond}
 use mathlib.Core.Logic.{◌⊎◌, inl, inr, ⊎_elim}
 use Prim.Native.Nat.{ℕ, zero, suc, ◌+◌, ◌*◌, ◌<◌, ◌≤◌}
 use native.Mathlib.Nat.{mul-le-mul_left}
 use native.Mathlib.Decide.{dec_lt}
 use native.Mathlib.Omega.{arith}
 use lib.IntN.{ℤ, pos, negsuc, neg_ℤ, nat_abs, ◌+ℤ◌, ◌-ℤ◌, ◌*ℤ◌, *ℤ_comm}
-use lib.Signed.{◌≤ℤ◌, ◌<ℤ◌}
+use lib.Signed.{le_z, lt_z, ◌≤ℤ◌, ◌<ℤ◌}
+use Rattle.std.proofs.lemmas.Bool.Decides.{nat_tests}
+use Rattle.std.specs.Int.{int_min, int_max}
+use Rattle.whole.specs.Numbers.{min_ℤ, max_ℤ, abs_ℤ}
 use Rattle.whole.proofs.PlusMinus.{plus, minus, le_says, le_by, lt_by, abs_is, one_is_zero}
 use Rattle.whole.proofs.Expressions.{var, lit, ◌⊕◌, ◌⊖◌, ◌⊛◌, is, le!, eq!, le?}
 use Rattle.whole.proofs.Rules.{ints}
@@ -77,3 +81,26 @@ abs_mul (pos a) (pos b) = refl
 abs_mul (pos a) (negsuc b) = neg_size (a * suc b)
 abs_mul (negsuc a) (pos b) = neg_size (suc a * b)
 abs_mul (negsuc a) (negsuc b) = refl
+
+-- the library's size, lesser and greater are the definitions'
+after : (x y : ℤ) → lt_z y x ≡ not (le_z x y)
+after (pos a) (pos b) = grind (arith, nat_tests)
+after (pos a) (negsuc b) = refl
+after (negsuc a) (pos b) = refl
+after (negsuc a) (negsuc b) = grind (arith, nat_tests)
+
+turned : (t : Bool) (x y : ℤ) → cond (not t) x y ≡ cond t y x
+turned true x y = refl
+turned false x y = refl
+
+pub min_same : (x y : ℤ) → int_min x y ≡ min_ℤ x y
+unfolding min_ℤ
+min_same x y = rw (after x y) (turned (le_z x y) y x)
+
+pub max_same : (x y : ℤ) → int_max x y ≡ max_ℤ x y
+unfolding max_ℤ
+max_same x y = rw (after x y) (turned (le_z x y) x y)
+
+pub abs_same : (x : ℤ) → pos (nat_abs x) ≡ abs_ℤ x
+unfolding abs_ℤ
+abs_same x = refl

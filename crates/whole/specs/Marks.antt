@@ -1,6 +1,6 @@
 -- A list of marks, one for each number in the order of the numbers: true where the number keeps its rule.
 -- Assumes nothing.
-use Rattle.std.specs.Prelude.{Bool, true, cond, ◌&&◌, List, [], ◌∷◌, ◌++◌, map, ℕ, zero, suc, ◌+◌, ℤ}
+use Rattle.std.specs.Prelude.{◌≡◌, Bool, true, cond, ◌&&◌, List, [], ◌∷◌, ◌++◌, map, length, ℕ, zero, suc, ◌+◌, ◌*◌, ◌<◌, ℤ, Result, Ok, Err}
 use Rattle.whole.specs.Bounds.{is_zero}
 
 -- the place of the first false mark; the count of the marks where none is false
@@ -11,6 +11,11 @@ first_false (m ∷ ms) = cond m (suc (first_false ms)) 0
 -- the same place, where the first mark stands at place k
 unfoldable pub place_from : ℕ → List Bool → ℕ
 place_from k ms = k + first_false ms
+
+-- what a check of marks answers, the first of which stands at place k: Ok where none is false, else the place of the first false one
+unfoldable pub check_from : ℕ → List Bool → Result (Unit {0}) ℕ
+check_from k [] = Ok tt
+check_from k (m ∷ ms) = cond m (check_from (suc k) ms) (Err k)
 
 -- every mark is true
 unfoldable pub all_true : List Bool → Bool
@@ -30,3 +35,8 @@ all_zero numbers = all_true (map is_zero numbers)
 unfoldable pub pieces : {A : Type 0} → (ℕ → List A) → ℕ → ℕ → List A
 pieces piece i zero = []
 pieces piece i (suc n) = piece i ++ pieces piece (suc i) n
+
+-- a check of each of n pieces, one after another, answers as their marks do: so many marks each, the first at place `at`
+pub record AsMarks (answers : ℕ → Result (Unit {0}) ℕ → Type 0) (at size n : ℕ) (marks : ℕ → List Bool) : Type 0 where
+  pub long : (k : ℕ) → k < n → length (marks k) ≡ size
+  pub answer : (k : ℕ) (r : Result (Unit {0}) ℕ) → k < n → answers k r → r ≡ check_from (at + size * k) (marks k)

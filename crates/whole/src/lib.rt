@@ -2,13 +2,13 @@
 
 pub mod codes;
 
-ghost use Rattle.std.specs.Prelude.{◌≡◌, map, ◌+◌, ◌≤◌, ◌<◌, ◌^◌, pos, nat_abs, ◌≤ℤ◌, length};
+ghost use Rattle.std.specs.Prelude.{◌≡◌, map, ◌+◌, ◌<◌, ◌^◌, pos, nat_abs, ◌≤ℤ◌, length};
 ghost use Rattle.std.specs.Int.{w64};
 ghost use Rattle.std.proofs.Common.{SFits};
 ghost use Rattle.whole.specs.Numbers.{min_ℤ, max_ℤ, abs_ℤ, divided_down, divided_up};
 ghost use Rattle.whole.specs.Bounds.{between};
 ghost use Rattle.whole.specs.Parts.{number};
-ghost use Rattle.whole.specs.Marks.{first_false, all_zero};
+ghost use Rattle.whole.specs.Marks.{check_from, all_zero};
 
 pub use codes::{Refusal, code};
 
@@ -31,11 +31,12 @@ pub fn number_between(numbers: &[i64], k: usize, low: i64, high: i64) -> bool
 }
 
 // Whether number k is x, that is lies from x to x.
+#[tactic(auto, using(crate::proofs::Bounds::same_bits))]
 pub fn number_is(numbers: &[i64], k: usize, x: i64) -> bool
     requires { k < length numbers.now }
     ensures { result ≡ between x (number numbers.now k) x }
 {
-    number_between(numbers, k, x, x)
+    numbers[k] == x
 }
 
 // Whether every number is zero. It does not stop at the first that is not, so that the compiler may look at several together.
@@ -43,48 +44,48 @@ pub fn all_zero(numbers: &[i64]) -> bool
     ensures { result ≡ all_zero numbers.now }
 {
     let mut zero = true;
-    let mut k = 0;
-    while k < numbers.len() {
-        zero = zero & number_is(numbers, k, 0);
-        k += 1;
+    for x in numbers {
+        zero &= *x == 0;
     }
     zero
 }
 
-// The place of the first number that does not lie from low to high, or the count of the numbers.
-pub fn first_outside(numbers: &[i64], low: i64, high: i64) -> usize
-    ensures { (result ≡ first_false (map (λ x. between low x high) numbers.now)) × (result ≤ length numbers.now) }
+// That every number lies from low to high, or the place of the first that does not. The first number stands at place `at`.
+pub fn check_between(at: usize, numbers: &[i64], low: i64, high: i64) -> Result<(), usize>
+    requires { at + length numbers.now < 2 ^ 64 }
+    ensures { result ≡ check_from at (map (λ x. between low x high) numbers.now) }
 {
-    let mut k = 0;
-    while k < numbers.len() {
-        if !number_between(numbers, k, low, high) {
-            return k;
+    for (k, x) in numbers.iter().enumerate() {
+        if !lies_between(low, *x, high) {
+            return Err(at + k);
         }
-        k += 1;
     }
-    k
+    Ok(())
 }
 
 // The lesser of two numbers.
+#[tactic(auto, using(crate::proofs::Numbers::min_same))]
 pub fn lesser(x: i64, y: i64) -> i64
     ensures { (result ≡ min_ℤ x y) × SFits w64 result }
 {
-    if x <= y { x } else { y }
+    x.min(y)
 }
 
 // The greater of two numbers.
+#[tactic(auto, using(crate::proofs::Numbers::max_same))]
 pub fn greater(x: i64, y: i64) -> i64
     ensures { (result ≡ max_ℤ x y) × SFits w64 result }
 {
-    if x <= y { y } else { x }
+    x.max(y)
 }
 
 // The size of a number.
+#[tactic(auto, using(crate::proofs::Numbers::abs_same))]
 pub fn size(x: i64) -> i64
     requires { nat_abs x < 2 ^ 63 }
     ensures { (result ≡ abs_ℤ x) × SFits w64 result }
 {
-    if x < 0 { -x } else { x }
+    x.abs()
 }
 
 // The quotient of a number from 0 up, rounded down.
@@ -95,7 +96,7 @@ pub fn divided_down(x: i64, by: i64) -> i64
     x / by
 }
 
-// The quotient of a number from 0 up, rounded up.
+// The quotient of a number from 0 up, rounded up: the library's `div_ceil` is of unsigned numbers alone.
 pub fn divided_up(x: i64, by: i64) -> i64
     requires { (pos 0 ≤ℤ x) × (pos 1 ≤ℤ by) × (nat_abs x + nat_abs by < 2 ^ 63) }
     ensures { (result ≡ divided_up x (nat_abs by)) × SFits w64 result }

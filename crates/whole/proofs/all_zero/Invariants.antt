@@ -1,14 +1,10 @@
--- `whole::all_zero` meets its contract: what was seen of the numbers before k, and those from k on, is all of them. Assumes nothing.
+-- `whole::all_zero` meets its contract: what was seen of the numbers before number x-index, and those from it on, is all of them. Assumes nothing.
 use mathlib.Core.Path.{◌≡◌}
 use mathlib.Core.Bool.{◌&&◌}
-use Prim.Native.Nat.{◌≤◌, ◌-◌}
-use lib.ListN.{length, drop}
+use lib.ListN.{drop}
 use Rattle.whole.specs.Bounds.{is_zero}
 use Rattle.whole.proofs.Lists.{all}
 use Rattle.whole.proofs.all_zero.Given as goal
 
-abbrev pub invariant-loop-k : goal.invariant-loop-k
-invariant-loop-k l = (l.k ≤ length l.numbers) × (all is_zero l.numbers ≡ l.zero && all is_zero (drop l.k l.numbers))
-
-abbrev pub decreases-loop-k : goal.decreases-loop-k
-decreases-loop-k l = length l.numbers - l.k
+abbrev pub invariant-loop-x : goal.invariant-loop-x
+invariant-loop-x l = all is_zero l.numbers ≡ l.zero && all is_zero (drop l.x-index l.numbers)

@@ -1,26 +1,34 @@
 -- `rates::cover::covers` meets its contract: a row of another length or with a broken number is not sound; a sound one is in its ranges.
 -- Assumes nothing.
-use mathlib.Core.Path.{◌≡◌, sym}
+use mathlib.Core.Path.{◌≡◌, sym, ap, ◌∙◌}
 use mathlib.Core.Bool.{true}
+use lib.ListN.{length}
 use borrow.Author.Tests.{ne_eqb}
 use Rattle.whole.proofs.Tests.{first_out, and_then}
-use Rattle.rates.specs.InForce.{sound_row}
+use Rattle.rates.specs.InForce.{sound_row, cover_test}
 use Rattle.rates.proofs.Ranges.{row_ranges, sound_by, broken_by}
 use Rattle.rates.proofs.cover.covers.Goals as goal
-use Rattle.rates.proofs.cover.covers.Goals.{Else-broken_number-lt-LENGTH}
+use Rattle.rates.proofs.cover.covers.Goals.{Else-is_err}
 
-sound : (c : Else-broken_number-lt-LENGTH) → sound_row c.args.row.now ≡ true
-sound c = sound_by _ c.if-row-ne-LENGTH.false _ c.broken_number.ensures c.if-broken_number-lt-LENGTH.false
+sound : (c : Else-is_err) → sound_row c.in-Some.row.now ≡ true
+sound c =
+    let whole = c.in-Some.ensures.cases in
+    sound_by _ (ap length whole.same ∙ whole.long) _ c.check_row.ensures (sym c.is_err.ensures.value ∙ c.if-is_err.false)
 
-pub returns-then-row-ne-LENGTH : goal.returns-then-row-ne-LENGTH
+pub returns-in_default : goal.returns-in_default
 unfolding sound_row
-returns-then-row-ne-LENGTH c = sym (first_out _ _ (first_out _ _ (ne_eqb _ _ c.if-row-ne-LENGTH.true)))
+returns-in_default c = sym (first_out _ _ (first_out _ _ (ne_eqb _ _ c.in_default.ensures.cases)))
 
-pub returns-then-broken_number-lt-LENGTH : goal.returns-then-broken_number-lt-LENGTH
-returns-then-broken_number-lt-LENGTH c = sym (first_out _ _ (broken_by _ c.if-row-ne-LENGTH.false _ c.broken_number.ensures c.if-broken_number-lt-LENGTH.true))
+pub returns-then-is_err : goal.returns-then-is_err
+returns-then-is_err c =
+    let whole = c.in-Some.ensures.cases in
+    let broken = broken_by _ (ap length whole.same ∙ whole.long) _ c.check_row.ensures (sym c.is_err.ensures.value ∙ c.if-is_err.true) in
+    sym (first_out _ _ (ap sound_row (sym whole.same) ∙ broken))
 
 pub passes-requires : goal.passes-requires
 passes-requires c = row_ranges _ (sound c)
 
 pub returns : goal.returns
-returns c = and_then _ _ (sound c.before) c.passes.ensures
+returns c =
+    let same = c.in-Some.ensures.cases.same in
+    and_then _ _ (ap sound_row (sym same) ∙ sound c.before) (c.passes.ensures ∙ ap cover_test same)

@@ -14,7 +14,7 @@ use Rattle.rates.proofs.dates.date_right.Goals as goal
 use Rattle.rates.proofs.dates.date_right.Goals.{Else-not-level_right}
 
 near : (c : Else-not-level_right) → mid c.args.row.now c.args.d within 10000000
-near c = near_mid c.requires.2 _ (left c.level_right.ensures c.if-not-level_right.false-raw)
+near c = near_mid c.requires.1 _ (left c.level_right.ensures c.if-not-level_right.false-raw)
 
 pub returns-then-not-level_right : goal.returns-then-not-level_right
 unfolding date_marks all_true

@@ -15,7 +15,7 @@ use Rattle.rates.proofs.in_force.row_in_force.Goals.{After-is_absent}
 -- what was asked of the own row
 asked : (c : After-is_absent)
     → c.is_absent.result ≡ absent (row_of c.args.own.now c.args.asset)
-asked c = c.is_absent.ensures ∙ ap absent (cut (64 * c.args.asset) 64 _)
+asked c = c.is_absent.ensures ∙ ap absent c.row_of.ensures
 
 pub returns-then-clearing-ne-TABLE_LENGTH : goal.returns-then-clearing-ne-TABLE_LENGTH
 unfolding has_row
