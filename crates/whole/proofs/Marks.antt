@@ -5,13 +5,11 @@ use mathlib.Core.Path.{◌≡◌, refl, sym, ap, ◌∙◌, subst}
 use mathlib.Core.Bool.{Bool, true, false}
 use mathlib.Core.List.{List, [], ◌∷◌, ◌++◌, map}
 use mathlib.Core.Logic.{⊎_elim}
-use Prim.Native.Nat.{ℕ, zero, suc, ◌+◌, ◌*◌, ◌-◌, ◌≤◌, ◌<◌}
+use Prim.Native.Nat.{ℕ, zero, suc, ◌+◌, ◌*◌, ◌≤◌, ◌<◌}
 use native.Mathlib.Nat.{eq-or-lt_of_le, mul-suc, mul-zero}
-use native.Mathlib.Numerals.{add-one}
 use native.Mathlib.Omega.{arith}
-use lib.ListN.{length, get_or, drop, drop_of_length-le, length-append, get_or-map}
-use lib.Seq.{drop-cons}
-use Rattle.whole.specs.Marks.{first_false, place_from, all_true, pieces}
+use lib.ListN.{length, get_or, length-append, get_or-map}
+use Rattle.whole.specs.Marks.{first_false, all_true, pieces}
 use Rattle.whole.proofs.Tests.{and_left, and_right, true_not_false}
 
 -- ---- the place: every mark before it is true, and the mark at it is false
