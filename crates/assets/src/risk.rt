@@ -40,8 +40,8 @@ fn long_sum(positions: [i64; 8]) -> i64
         .sum()
 }
 
-// The side that a position is charged on, as a number, by which the side's rate stands behind that of a fall: a rise where it is short. Here and in C' nothing branches on a position: which way it goes nobody can foresee, the
-// processor neither, and a wrong guess costs it more than the sums.
+// The side that a position is charged on, a rise where it is short: a number, by which the side's rate stands behind that of a fall. Here and in C' nothing
+// branches on a position: which way it goes nobody can foresee, the processor neither, and a wrong guess costs it more than the sums.
 fn side_of(position: i64) -> usize
     ensures { (result ≡ side_of position) × (result < 2) }
 {
