@@ -47,7 +47,9 @@ fn discounts(groups: &[i64], longs: [i64; 9], shorts: [i64; 9]) -> i64
     requires { PercentRanges groups.now × GroupRanges 16 longs × GroupRanges 16 shorts }
     ensures { (result ≡ Σ< 8 (discount_of groups.now longs shorts)) × (result upto 81920000000000000) }
 {
-    (0..GROUP_COUNT).map(|g| discount_of(groups, longs, shorts, g)).sum()
+    (0..GROUP_COUNT)
+        .map(|g| discount_of(groups, longs, shorts, g))
+        .sum()
 }
 
 // Ruble collateral and the ruble nets.
@@ -55,7 +57,9 @@ fn rubles_of(block: &[i64]) -> i64
     requires { BlockRanges block.now }
     ensures { (result ≡ rubles_of block.now) × (result within 900000000000000) }
 {
-    block[in_block::RUBLE_COLLATERAL..in_block::RUBLES_END].iter().sum()
+    block[in_block::RUBLE_COLLATERAL..in_block::RUBLES_END]
+        .iter()
+        .sum()
 }
 
 // The rubles of the members.
@@ -63,7 +67,9 @@ fn joint_rubles(valued: Valued<'_>) -> i64
     ensures value { result ≡ over_members valued.entry.members (λ j. rubles_of (block_of valued.entry.book.now j)) }
     ensures size { result within 3600000000000000 }
 {
-    (0..valued.members.count).map(|k| rubles_of(book::member_block(valued.book, valued.members, k))).sum()
+    (0..valued.members.count)
+        .map(|k| rubles_of(book::member_block(valued.book, valued.members, k)))
+        .sum()
 }
 
 // The five figures from the sums.
