@@ -1,5 +1,5 @@
-ghost use Rattle.std.specs.Prelude.{◌≡◌, length};
-ghost use Rattle.frames.specs.Frame.{order_numbers, frame_of, line_frame};
+ghost use Rattle.std.specs.Prelude.{◌≡◌};
+ghost use Rattle.frames.specs.Frame.{frame_of, line_frame};
 
 use crate::number::{N8, n8};
 use crate::{hex, in_frame};

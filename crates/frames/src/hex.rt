@@ -1,4 +1,4 @@
-ghost use Rattle.std.specs.Prelude.{◌≡◌, false, true, ◌*◌, ◌<◌, ◌≤◌, ◌/◌, length, take, MatchOption};
+ghost use Rattle.std.specs.Prelude.{◌≡◌, false, true, ◌*◌, ◌<◌, ◌≤◌, length, take, MatchOption};
 ghost use Rattle.frames.specs.Hex.{digit_value, is_hex, bytes_of};
 
 // Lower-case hexadecimal to the bytes that it writes.
