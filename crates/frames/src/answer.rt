@@ -13,7 +13,7 @@ const SHORTEST: usize = 3;
 
 const FIGURE: usize = 16;
 
-// The digit of a value.
+// The digit of a value. `char::from_digit` goes by way of u32, char and an option that is never None.
 #[tactic(auto, unfolding(crate::specs::Hex::digit_of))]
 fn digit(v: u8) -> u8
     requires { v < 16 }
