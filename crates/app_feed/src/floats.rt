@@ -39,6 +39,7 @@ pub(crate) fn all_below(f: figures::Figures) -> bool
 }
 
 // One figure: the cast loses nothing.
+// `f64::from` takes no i64, since not every one is exact; the `requires` says that this one is.
 pub(crate) fn exact(kopecks: i64) -> f64
     requires { nat_abs kopecks < 2 ^ 53 }
     ensures { result ≡ float kopecks }
@@ -47,6 +48,7 @@ pub(crate) fn exact(kopecks: i64) -> f64
 }
 
 // The five figures.
+// No `From`: it asks that every figure is below 2^53, which a `From` could not.
 pub(crate) fn floats_of(f: figures::Figures) -> Floats
     requires { Below2^53 f }
     ensures { result ≡ floats_of f }

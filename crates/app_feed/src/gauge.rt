@@ -14,7 +14,7 @@ pub enum Gauge {
     Used(f64),
 }
 
-// The three as numbers, for faces without such a type.
+// The three as numbers, as include/single_limit.h has them for C.
 pub const EMPTY: u8 = 0;
 
 pub const OVER: u8 = 1;

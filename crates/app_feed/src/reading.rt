@@ -15,6 +15,7 @@ const SIGN: u64 = 0x8000_0000_0000_0000;
 const INFINITY: u64 = 0x7ff0_0000_0000_0000;
 
 // Whether a number is the pattern of a float that is no NaN.
+// The pattern is asked and not the float: the kit's `from_bits` requires that there is no NaN, so `is_nan` would come too late.
 fn is_pattern(bits: u64) -> bool
     ensures { result ≡ is_pattern bits }
 {

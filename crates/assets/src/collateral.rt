@@ -79,6 +79,7 @@ fn counted_of(share: i64, held: i64, net: i64) -> i64
     held - free + whole::lesser(free, taken)
 }
 
+// That a share is in range stands in each `requires`: a variant of an enum has no ghost field.
 impl Regime {
     // The share in force: none under special delivery, and where the regime carries one, that.
     pub(crate) fn share_in_force(self, kind: usize, row: Row<'_>) -> i64

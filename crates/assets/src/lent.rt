@@ -5,14 +5,15 @@ ghost use Rattle.book.specs.Ranges.{HoldingRanges};
 // the numbers alone, as their callers have them, and say in a `requires` that they are in range.
 
 // A row in force, as the table check leaves it.
-#[derive(Clone, Copy)]
+// Its numbers stay a slice: `asset_of` and `part_of` are handed one, and `RowRanges` says its length.
+#[derive(Clone, Copy, Debug, PartialEq, Eq)]
 pub(crate) struct Row<'a> {
     pub(crate) numbers: &'a [i64],
     ghost in_range: { RowRanges numbers.now },
 }
 
 // The asset's 17 numbers in a block, as the block rules leave them.
-#[derive(Clone, Copy)]
+#[derive(Clone, Copy, Debug, PartialEq, Eq)]
 pub(crate) struct Holding<'a> {
     pub(crate) numbers: &'a [i64],
     ghost in_range: { HoldingRanges numbers.now },

@@ -19,11 +19,13 @@ pub struct Part {
     pub interest: i64,
     pub long: i64,
     pub short: i64,
+    // 0 for none: `group_of` and `by_group` of the definitions count from there, and `Totals` of figures has nine places for it.
     pub group: usize,
 }
 
 impl Row<'_> {
     // Its spread group, 0 for none.
+    // The cast loses nothing: `RowRanges` says that a group is 0 to 8.
     fn group_of(self) -> usize
         ensures { (result ≡ group_of self.entry.numbers.now) × (result < 9) }
     {

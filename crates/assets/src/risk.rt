@@ -22,6 +22,7 @@ fn charge_of(base: i64, raised: i64, limit: i64, n: i64) -> i64
 }
 
 // The sum of the positions.
+// `PositionRanges` is asked where positions are, and is in no struct: `positions` of an `Asset` is a plain array in the definitions, of one block or of four.
 pub(crate) fn sum_of(positions: [i64; 8]) -> i64
     requires { PositionRanges positions }
     ensures { (result ≡ position_sum positions) × (result within 64000000) }

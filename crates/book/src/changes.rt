@@ -49,6 +49,7 @@ fn add(block: &mut [i64], k: usize, amount: i64)
 }
 
 // Where the claim or the obligation stands that a trade adds to.
+// `TradeRanges` is asked, and is no field of `Trade`: `reversed` and `trade_of` of the definitions make a trade of any five numbers.
 fn trade_at(t: Trade) -> usize
     requires { TradeRanges t }
     ensures { result ≡ trade_at t.asset t.date t.side }
@@ -74,11 +75,9 @@ pub fn reversed(t: Trade) -> Trade
     ensures { (result ≡ reversed t) × TradeRanges result }
 {
     Trade {
-        asset: t.asset,
-        date: t.date,
-        side: t.side,
         quantity: -t.quantity,
         money: -t.money,
+        ..t
     }
 }
 

@@ -18,6 +18,7 @@ pub struct Members {
 }
 
 // An account alone.
+// The cast loses nothing: a kind is 0 to 3, which the `requires` says.
 pub fn alone(book: &[i64], i: usize) -> Members
     requires { InBook book.now i × (account_kind (block_of book.now i) upto 3) }
     ensures { result ≡ alone_at book.now i }

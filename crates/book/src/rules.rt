@@ -15,6 +15,7 @@ use rates::units::ASSET_COUNT;
 const PART: usize = 32;
 
 // Whether every number lies from low to high.
+// It answers no place, so it is `all` and not `check_between` of whole, which tells one.
 fn all_between(numbers: &[i64], low: i64, high: i64) -> bool
     ensures { result ≡ all_true (map (λ x. between low x high) numbers.now) }
 {
@@ -45,6 +46,7 @@ fn rubles_right(block: &Block) -> bool
 }
 
 // Whether the head of an open block is right: its kind, its settlement code, and nothing else at 10 to 15.
+// Numbers 10 to 12, 14 and 15 have no name: document 01 gives them no meaning. They are asked one by one, as `head_marks` lists them.
 fn head_right(block: &Block) -> bool
     ensures { result ≡ all_true (head_marks block.now) }
 {

@@ -19,6 +19,7 @@ pub struct Terms {
     pub money: i64,
 }
 
+// Casts of constants: `i64::from` takes no usize, and `try_from` is no constant.
 const LAST_ASSET: i64 = units::ASSET_COUNT as i64 - 1;
 
 const LAST_DATE: i64 = units::DATE_COUNT as i64 - 1;
@@ -69,14 +70,14 @@ pub fn trade_of(o: Terms) -> Trade
 pub fn is_rubles(asset: i64) -> bool
     ensures { result ≡ is_rubles asset }
 {
-    whole::lies_between(RUBLES, asset, RUBLES)
+    asset == RUBLES
 }
 
 // Whether an amount may be moved: not 0, and within the bounds of the asset or of rubles.
 pub fn move_amount_right(asset: i64, amount: i64) -> bool
     ensures { result ≡ move_amount_right asset amount }
 {
-    if whole::lies_between(0, amount, 0) {
+    if amount == 0 {
         return false;
     }
     if is_rubles(asset) {

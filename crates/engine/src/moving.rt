@@ -35,6 +35,7 @@ fn move_checks(clearing: &[i64], asset: i64, amount: i64) -> Result<(), Refusal>
 }
 
 // Every code of a move before 10, or the account's place.
+// `order_gate` has the same steps. The checks, the fit and what is cast differ, and one function for both would take a closure for each.
 fn move_gate(
     book: &[i64],
     tables: Tables<'_>,

@@ -44,6 +44,7 @@ pub extern "C" fn single_limit_check_tables(
             DONE
         }
         Err(fault) => {
+            // No `u64::from` takes a usize; here both have 64 bits.
             *place = fault.place() as u64;
             u8::from(Refusal::from(fault))
         }

@@ -46,6 +46,7 @@ impl<'a> Valued<'a> {
     }
 
     // The record of asset a over the members: the first one's, with each other's added.
+    // A loop: the sum's bounds grow with each record (`AssetRanges`), which a `fold` would have to say of its closure.
     fn asset(self, row: &[i64], a: usize) -> Asset
         requires { RowRanges row.now × (a < 16) }
         ensures { result ≡ joint_of (over_members self.entry.members) self.entry.members.kind row.now (λ j. holding_of (block_of self.entry.book.now j) a) }

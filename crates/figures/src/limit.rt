@@ -32,6 +32,7 @@ pub struct Figures {
 const HUNDRED_PERCENT: i64 = 100;
 
 // The discount of group g + 1.
+// Groups and the two sides go together in two functions alone; that the percents are right is asked once more, where the two begin.
 fn discount_of(groups: &[i64], longs: [i64; 9], shorts: [i64; 9], g: usize) -> i64
     requires { PercentRanges groups.now × GroupRanges 16 longs × GroupRanges 16 shorts × (g < 8) }
     ensures { (result ≡ discount_of groups.now longs shorts g) × (result upto 10240000000000000) }

@@ -14,6 +14,7 @@ const SHORTEST: usize = 3;
 const FIGURE: usize = 16;
 
 // The digit of a value. `char::from_digit` goes by way of u32, char and an option that is never None.
+// By hand: `char::from_digit` goes through char and u32.
 #[tactic(auto, unfolding(crate::specs::Hex::digit_of))]
 fn digit(v: u8) -> u8
     requires { v < 16 }
@@ -26,6 +27,7 @@ fn digit(v: u8) -> u8
 }
 
 // A buffer, and the place past what is written in it.
+// A buffer and the place past what is written in it: no heap holds a growing list, and `written_in` of the definitions names both.
 #[derive(Drop)]
 pub struct Answers<'a> {
     pub out: &'a mut [u8],
@@ -86,6 +88,7 @@ impl<'a> Answers<'a> {
     }
 
     // An answer's line: the code, the figures and the newline. Where there is no room for the whole line nothing is written.
+    // The code comes as the byte that the line writes: `answer_line` of the definitions takes a number, and this crate knows of no refusals.
     pub fn put_answer(&mut self, code: u8, figures: &[i64])
         ensures { Wrote self.old self.new (answer_line code figures.now) }
     {

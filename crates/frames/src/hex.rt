@@ -19,6 +19,7 @@ fn digit_value(b: u8) -> Option<u8>
 }
 
 // The bytes of a line that writes whole bytes, at the start of `bytes`; how many there are.
+// It answers how many bytes and lends none of them: the caller has the buffer.
 pub(crate) fn unhex(line: &[u8], bytes: &mut [u8]) -> Option<usize>
     requires { length line.now ≤ 2 * length bytes.old }
     ensures { MatchOption result (is_hex line.now ≡ false)
@@ -29,6 +30,7 @@ pub(crate) fn unhex(line: &[u8], bytes: &mut [u8]) -> Option<usize>
         return None;
     }
     // Of what is written through a zipped `bytes.iter_mut()` the check knows nothing, so `bytes` goes by its index.
+    // By place: behind an adapter of `iter_mut`, as `zip` is, a proof knows nothing of what was written.
     for (k, [high, low]) in pairs.iter().enumerate() {
         let high = digit_value(*high)?;
         let low = digit_value(*low)?;

@@ -17,6 +17,7 @@ const OUTER_LOW: usize = in_row::DATES + in_row::OUTER_LOW;
 const OUTER_UP: usize = in_row::DATES + in_row::OUTER_UP;
 
 // The greater distance of date 0's outer numbers from its mid.
+// Three private functions ask that the row keeps its rules; `covers` alone calls them, and a struct would hold one field for it.
 fn outer_width(row: &Row) -> i64
     requires { RowRanges row.now }
     ensures { (result ≡ outer_width row.now 0) × (result upto 10000000) }

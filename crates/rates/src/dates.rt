@@ -15,6 +15,8 @@ use crate::{in_row, units};
 // The rules of a row's dates, five numbers each, the mid first. The price is right where they are looked at, and of a date the mid comes
 // first; so price + mid is never taken of a mid that could make it wrap, and the others are measured from a mid within 10^7 of 0.
 
+// Five functions ask that the price is right: `check_listed` of `row` hands them a plain row, and a struct for that one fact would be no plainer.
+
 // Whether price + mid of date d lies from 0 to 10^7, asked of the mid.
 fn level_right(row: &Row, d: usize) -> bool
     requires { (d < dates) × (price row.now upto 10000000) }
@@ -22,13 +24,14 @@ fn level_right(row: &Row, d: usize) -> bool
 {
     let price = row[in_row::PRICE];
     whole::lies_between(
-        0 - price,
+        -price,
         row[in_row::DATES + in_row::DATE_LENGTH * d],
         units::TEN_MILLION - price,
     )
 }
 
 // Whether number k lies from mid − 10^7 to number j.
+// Here the bound of the size is below and number j above, in `above_mid` the other way round: one function for both would take the two bounds.
 fn below_mid(row: &Row, mid: usize, k: usize, j: usize) -> bool
     requires { (mid < row_length) × (k < row_length) × (j < row_length) × (number row.now mid within 10000000) }
     ensures { result ≡ between (number row.now mid -ℤ ten_million) (number row.now k) (number row.now j) }

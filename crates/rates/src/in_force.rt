@@ -8,6 +8,7 @@ use crate::{in_row, row, tables, units};
 // Which row of the two tables is in force, and whether an asset is listed.
 
 // The row in force for an asset, lent from whichever table holds it; no numbers where a table has another length or there is no such asset.
+// No row is no numbers, as `lookup` has it. It is cut out by its place: `StandsIn` promises where it stands, which `as_array` does not say.
 pub fn row_in_force<'a>(clearing: &'a [i64], own: &'a [i64], asset: usize) -> &'a [i64]
     ensures numbers { result.now ≡ lookup clearing.now own.now asset }
     ensures place { StandsIn clearing.entry own.entry asset result }
@@ -29,6 +30,7 @@ pub fn row_in_force<'a>(clearing: &'a [i64], own: &'a [i64], asset: usize) -> &'
 }
 
 // The row in force of tables that passed the check. Of these an own row is absent exactly where it has no kind, so its first number says which row it is.
+// The sums ask `row_in_force`, since `TableRanges`, which they are promised, does not say `PresentByKind`.
 pub fn row_of_sound<'a>(clearing: &'a [i64], own: &'a [i64], asset: usize) -> &'a [i64]
     requires { (length clearing.now ≡ table_length) × (length own.now ≡ table_length) × (asset < assets) × PresentByKind own.now asset }
     ensures { result.now ≡ in_force clearing.now own.now asset }

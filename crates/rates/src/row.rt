@@ -17,6 +17,7 @@ const COMMODITY: i64 = 3;
 
 const PARTIAL: i64 = 2;
 
+// A cast of a constant: `i64::from` takes no usize, and `try_from` is no constant.
 const LAST_GROUP: i64 = units::GROUP_COUNT as i64;
 
 pub(crate) const FALL: usize = in_row::BASE_RATES + in_row::FALL;

@@ -53,13 +53,13 @@ impl Fault {
     {
         match self {
             Fault::WrongLength => 0,
-            Fault::BrokenNumber(place) => place,
-            Fault::LaxerOwnRow(place) => place,
+            Fault::BrokenNumber(place) | Fault::LaxerOwnRow(place) => place,
         }
     }
 }
 
 // The row of an asset.
+// It takes a slice, since `row_of_sound` and `row_in_force` are lent slices; a whole table as an array is lent as one too.
 pub(crate) fn row_of(table: &[i64], asset: usize) -> &Row
     requires { (length table.now ≡ table_length) × (asset < assets) }
     ensures { result.now ≡ row_of table.now asset }
@@ -69,6 +69,7 @@ pub(crate) fn row_of(table: &[i64], asset: usize) -> &Row
 }
 
 // The own row of an asset, and the clearing row that it stands over.
+// The two tables stay two parameters: `check_numbers` has the groups too, and each of the six functions hands both on in one short call.
 fn own_row_of<'a>(clearing: &'a Table, own: &'a Table, asset: usize) -> OwnRow<'a>
     requires { asset < assets }
     ensures { (result.own.now ≡ row_of own.now asset) × (result.clearing.now ≡ row_of clearing.now asset) }

@@ -13,6 +13,7 @@ mod waiting;
 pub use waiting::Failed;
 
 // The streams of the process.
+// The handles of std have no comparison and no printing, so neither has this.
 #[derive(Clone, Copy)]
 pub struct Streams {
     pub input: Stdin,
@@ -29,13 +30,12 @@ fn answer_piece(
     streams: Streams,
     session: &mut Session,
     piece: &[u8],
-    out: &mut [u8],
+    out: &mut [u8; BUFFER],
 ) -> Result<(), Failed>
-    requires { longest_answer ≤ length out.old }
     ensures { IfOk result (λ _. WentThrough session.old session.new piece.now) }
 {
-    // No `for`: `feed` says how much of the rest is next.
     let mut rest = piece;
+    // A `while`, with no index: it ends where the piece does, and how far one turn comes only `feed` says.
     while !rest.is_empty() {
         let mut answers = Answers::new(out);
         let used = session.feed(rest, &mut answers);
@@ -50,9 +50,8 @@ fn read_all(
     streams: Streams,
     session: &mut Session,
     buf: &mut [u8],
-    out: &mut [u8],
+    out: &mut [u8; BUFFER],
 ) -> Result<(), Failed>
-    requires { longest_answer ≤ length out.old }
 {
     for _ in 0..u64::MAX {
         let count = waiting::read_some(streams.input, streams.errors, buf)?;
@@ -70,9 +69,8 @@ fn serve(
     streams: Streams,
     session: &mut Session,
     buf: &mut [u8],
-    out: &mut [u8],
+    out: &mut [u8; BUFFER],
 ) -> Result<(), Failed>
-    requires { longest_answer ≤ length out.old }
 {
     read_all(streams, session, buf, out)?;
     let mut answers = Answers::new(out);

@@ -6,6 +6,7 @@ use frames::Frame;
 
 // The line that has begun: its first bytes, and how many it has. Of a line that is too long the count is one above the longest line, and what `bytes`
 // holds is not said.
+// A line that is too long has a count past the longest and is no variant: `Took` and `Session::end` promise of the count (`counted`).
 #[derive(Clone, Copy, Debug, PartialEq, Eq)]
 pub struct Line {
     pub bytes: [u8; LONGEST_LINE],

@@ -55,6 +55,7 @@ impl Session {
 
     // The end of the input: a line that has begun ends, though its newline lacks, and 1 is answered. Where none has begun, or there is no room for the
     // longest answer, nothing is done and 0 is answered.
+    // It answers a count, as `feed` does: the clause `ended` has it as what was used of a piece of one newline.
     #[tactic(auto, unfolding(crate::specs::Stream::ended))]
     pub fn end(&mut self, answers: &mut Answers<'_>) -> usize
         ensures ended { fed_in result self.new answers.new ≡ ended (fed_in 0 self.old answers.old) }

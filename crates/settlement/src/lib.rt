@@ -16,10 +16,11 @@ use book::{Members, in_block};
 // code pays for one comparison more than its own block's; for one on a code every account is looked at.
 
 // The most blocks on one code.
+// `Members` has as many places.
 const MOST_MEMBERS: usize = 4;
 
 // An account of a whole book, of whose code something is asked.
-#[derive(Clone, Copy)]
+#[derive(Clone, Copy, Debug, PartialEq, Eq)]
 struct Account<'a> {
     book: &'a [i64],
     i: usize,
@@ -95,6 +96,7 @@ impl<'a> Account<'a> {
     }
 
     // How many blocks are on its code, where each of them passes: none is asked behind the first that does not.
+    // A loop: `filter` and then `try_fold` would say the same in two closures, one of which carries the count.
     fn members_passing<F: Fn(usize) -> bool>(&self, passes: F) -> Option<usize>
         requires { (j : ℕ) → j < 16 → F.pre passes j }
         ensures { (test : ℕ → Bool) → Tells F.Fn passes test → result ≡ passing (on_code self.now.book.now self.now.i) test }
@@ -112,6 +114,7 @@ impl<'a> Account<'a> {
     }
 
     // The blocks on its code, by a look at every account.
+    // The places go into an array of four with their count, as specs/Members `list_of` builds them: there is no heap for a list.
     fn gathered_members(&self) -> Members
         requires { CodeRanges self.now.book.now self.now.i }
         ensures { result ≡ members_of self.now.book.now self.now.i }
@@ -131,6 +134,7 @@ impl<'a> Account<'a> {
 }
 
 // Whether the code of account i is right. On no code the account's block decides, and no other is looked at.
+// The three public questions have one shape, and differ in what is asked of the own block, what of a member, and whether there may be more than four.
 pub fn code_right(book: &[i64], i: usize) -> bool
     requires { InBook book.now i }
     ensures { result ≡ code_right book.now i }

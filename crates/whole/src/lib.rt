@@ -16,6 +16,7 @@ pub use codes::{Refusal, code};
 // shows that it does not. A `requires` of this crate is met by its callers inside the engine.
 
 // Whether x lies from low to high.
+// Two comparisons: `(low..=high).contains(&x)` goes through a range, and is no plainer in the one function that all others call.
 pub fn lies_between(low: i64, x: i64, high: i64) -> bool
     ensures { result ≡ between low x high }
 {
@@ -30,7 +31,7 @@ pub fn number_between(numbers: &[i64], k: usize, low: i64, high: i64) -> bool
     lies_between(low, numbers[k], high)
 }
 
-// Whether number k is x, that is lies from x to x.
+// Whether number k is x. The definitions ask equality as `between x y x` (specs/Bounds `equal`), so the contract does.
 #[tactic(auto, using(crate::proofs::Bounds::same_bits))]
 pub fn number_is(numbers: &[i64], k: usize, x: i64) -> bool
     requires { k < length numbers.now }
@@ -62,6 +63,8 @@ pub fn check_between(at: usize, numbers: &[i64], low: i64, high: i64) -> Result<
     }
     Ok(())
 }
+
+// `min`, `max` and `abs` of the library promise its own definitions; these three promise those of specs/Numbers, by which the figures are defined.
 
 // The lesser of two numbers.
 #[tactic(auto, using(crate::proofs::Numbers::min_same))]
