@@ -3,7 +3,7 @@ ghost use Rattle.whole.specs.Marks.{check_from, pieces, AsMarks};
 
 // Pieces of one size, one after another: the dates of a row, the rows of a table.
 
-// That each of so many pieces passes a check, or what the first that does not answers.
+// Ok where each of so many pieces passes its check, else what the first that does not pass answers.
 // A `for` with `?` says it in two lines: of `try_for_each` the law of a first piece that fails would be said of a run of the iterator.
 pub(crate) fn each<F: Fn(usize) -> Result<(), usize>>(count: usize, check: F) -> Result<(), usize>
     requires { (k : ℕ) → k < count → F.pre check k }

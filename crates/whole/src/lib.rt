@@ -51,7 +51,7 @@ pub fn all_zero(numbers: &[i64]) -> bool
     zero
 }
 
-// That every number lies from low to high, or the place of the first that does not. The first number stands at place `at`.
+// Ok where every number lies from low to high, else the place of the first that does not; the first number stands at place `at`.
 pub fn check_between(at: usize, numbers: &[i64], low: i64, high: i64) -> Result<(), usize>
     requires { at + length numbers.now < 2 ^ 64 }
     ensures { result ≡ check_from at (map (λ x. between low x high) numbers.now) }
