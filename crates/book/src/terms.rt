@@ -67,6 +67,7 @@ pub fn trade_of(o: Terms) -> Trade
 }
 
 // Whether rubles are moved.
+#[tactic(auto, using(whole::proofs::Bounds::same_bits, whole::proofs::Bounds::same_literal))]
 pub fn is_rubles(asset: i64) -> bool
     ensures { result ≡ is_rubles asset }
 {
@@ -77,7 +78,8 @@ pub fn is_rubles(asset: i64) -> bool
 pub fn move_amount_right(asset: i64, amount: i64) -> bool
     ensures { result ≡ move_amount_right asset amount }
 {
-    if amount == 0 {
+    // Not `==`: the check tried, and found no proof of the choice below it.
+    if whole::lies_between(0, amount, 0) {
         return false;
     }
     if is_rubles(asset) {

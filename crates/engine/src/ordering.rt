@@ -18,7 +18,10 @@ use whole::Refusal;
 fn order_checks(clearing: &[i64], o: Terms) -> Result<(), Refusal>
     ensures { answer_code result ≡ first_code (order_checks clearing.now o) }
 {
-    if !(book::choice_right(o) && rates::is_listed(clearing, o.asset as usize)) {
+    if !book::choice_right(o) {
+        return Err(Refusal::WrongChoice);
+    }
+    if !rates::is_listed(clearing, o.asset as usize) {
         return Err(Refusal::WrongChoice);
     }
     if !book::amounts_right(o) {
