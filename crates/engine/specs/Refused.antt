@@ -27,6 +27,7 @@ unfoldable pub place_of : ℤ → ℕ
 place_of account = cond (between (pos 0) account (pos 15)) (nat_abs account) accounts
 
 -- ---- codes 1, 2, 13 and 3
+-- code 3
 abbrev pub account_refusals : ℕ → List Refusal
 account_refusals i = not (ltb i accounts) gives no_account ∷ []
 

@@ -34,6 +34,7 @@ written_in answers = record { bytes = answers.out.now; at = answers.at }
 
 pub record Wrote (before after : Answers) (line : List ℕ) : Type 0 where
   pub same : after.out.ghost_name ≡ before.out.ghost_name
+  pub long : length after.out.now ≡ length before.out.now
   pub said : written_in after ≡ written before.out.now before.at line
 
 -- where there is room for it: the line, so many bytes, stands past what stood there

@@ -12,7 +12,5 @@ pub(crate) fn n8(bytes: &[u8]) -> i64
     requires { length bytes.now ≡ 8 }
     ensures { result ≡ n8_at bytes.now 0 }
 {
-    i64::from_be_bytes([
-        bytes[0], bytes[1], bytes[2], bytes[3], bytes[4], bytes[5], bytes[6], bytes[7],
-    ])
+    i64::from_be_bytes(*bytes.as_array().unwrap())
 }

@@ -17,8 +17,7 @@ use Rattle.figures.specs.Limit.{block_figures}
 use Rattle.engine.specs.State.{State, block_at}
 use Rattle.engine.specs.Refused.{table_gate}
 use Rattle.engine.specs.Calls.{Call, outcome_of, opening, rolling, moving, ordering}
-use Rattle.engine.specs.Report.{report_of, answer_of}
-use Rattle.engine.specs.Report.{Reported}
+use Rattle.engine.specs.Report.{report_of, answer_of, Reported}
 
 -- ---- whichever account of a code is asked
 abbrev pub OneReport : Type 0

@@ -21,8 +21,7 @@ use Rattle.settlement.specs.Code.{on_code}
 use Rattle.figures.specs.Laws.{Covered}
 use Rattle.engine.specs.State.{State, block_at}
 use Rattle.engine.specs.Calls.{outcome_of, moving, ordering}
-use Rattle.engine.specs.Report.{report_of}
-use Rattle.engine.specs.Report.{Reported}
+use Rattle.engine.specs.Report.{report_of, Reported}
 use Rattle.book.specs.declared.terms.Terms.{Terms}
 
 -- ---- the words

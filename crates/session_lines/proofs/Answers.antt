@@ -54,13 +54,3 @@ written_inside out line e h = subst (λ (w : Written). w.at ≤ length w.bytes) 
         w.at ≤ length w.bytes
     by true r = let l = leb-true _ _ r in let q = put_length 0 out.at (length line) out.bytes line l refl in omega arith
     by false r = h
-
--- and the buffer is as long as it was
-pub written_long : {w : Written} (out : Written) (line : List ℕ) → w ≡ written out.bytes out.at line → length w.bytes ≡ length out.bytes
-unfolding written
-written_long out line e = ap (λ (w : Written). length w.bytes) e ∙ by (leb (out.at + length line) (length out.bytes)) refl
-  where
-    by : (t : Bool) → leb (out.at + length line) (length out.bytes) ≡ t
-        → length (cond {A = Written} t (record { bytes = put out.at (length line) out.bytes line; at = out.at + length line }) out).bytes ≡ length out.bytes
-    by true r = put_length 0 out.at (length line) out.bytes line (leb-true _ _ r) refl
-    by false r = refl

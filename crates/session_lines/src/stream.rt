@@ -60,6 +60,7 @@ impl Session {
     pub fn end(&mut self, answers: &mut Answers<'_>) -> usize
         ensures ended { fed_in result self.new answers.new ≡ ended (fed_in 0 self.old answers.old) }
         ensures same { answers.new.out.ghost_name ≡ answers.old.out.ghost_name }
+        ensures long { length answers.new.out.now ≡ length answers.old.out.now }
         ensures inside { answers.old.at ≤ length answers.old.out.now → answers.new.at ≤ length answers.new.out.now }
         ensures counted { self.old.line.count ≤ longest_line + 1 → self.new.line.count ≤ longest_line + 1 }
     {

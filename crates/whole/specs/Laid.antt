@@ -1,7 +1,5 @@
 -- What writing does to a buffer: so many elements laid from a place on, and nothing else changed. Assumes nothing.
 use Rattle.std.specs.Prelude.{◌≡◌, List, ℕ, ◌+◌, length}
-use Rattle.std.specs.Borrow.{MutBor}
-use denote.Triple.Both.{Both}
 use Rattle.whole.specs.Parts.{put}
 
 -- the line, so many elements, stands in a buffer from place `at` on, and `next` is the place past it
@@ -9,7 +7,3 @@ pub record Laid {A : Type 0} (before : List A) (at size : ℕ) (line after : Lis
   pub count : next ≡ at + size
   pub long : length line ≡ size
   pub elements : after ≡ put at size before line
-
--- as an `ensures` says it of a buffer that it writes, a pair: as it was found, and as it was left
-abbrev pub LaidIn : {A : Type 0} → Both (MutBor (List A)) (MutBor (List A)) → ℕ → ℕ → List A → ℕ → Type 0
-LaidIn out at size line next = Laid out.entry.now at size line out.exit.now next

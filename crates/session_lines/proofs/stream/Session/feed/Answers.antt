@@ -11,7 +11,7 @@ use Rattle.session_lines.specs.Session.{Memory, answered}
 use Rattle.session_lines.specs.Stream.{begun, held, frame_held, stream_of, fed_in, Fed, closed, fed, Took}
 use Rattle.session_lines.specs.declared.stream.Session.{Session}
 use Rattle.session_lines.proofs.stream.Steps.{byte_taken, line_taken, line_waits, piece_ends, some_used}
-use Rattle.session_lines.proofs.Answers.{written_inside, written_long}
+use Rattle.session_lines.proofs.Answers.{written_inside}
 use Rattle.session_lines.proofs.stream.Session.feed.Invariants.{Kept}
 use Rattle.session_lines.proofs.stream.Session.feed.Goals as goal
 
@@ -75,7 +75,7 @@ loop-used-preserved c =
     let a = c.answer.ensures in
     record {
       same = a.said.same ∙ j.invariant.same;
-      long = written_long f.out _ a.said.said ∙ j.invariant.long;
+      long = a.said.long ∙ j.invariant.long;
       inside = λ h. written_inside f.out _ a.said.said (j.invariant.inside h);
       counted = λ _. omega arith;
       rest = j.invariant.rest ∙ line_taken f _ c.loop-used-test.true c.if-b-ne-NEWLINE.false (omega arith)
