@@ -27,7 +27,7 @@ fn is_below(kopecks: i64) -> bool
     whole::lies_between(-MOST_EXACT, kopecks, MOST_EXACT)
 }
 
-// Whether all five are.
+// Whether all five are: five tests with no branch between them, as the record has its fields by name.
 pub(crate) fn all_below(f: figures::Figures) -> bool
     ensures { result ≡ all_below f }
 {
@@ -47,8 +47,7 @@ pub(crate) fn exact(kopecks: i64) -> f64
     kopecks as f64
 }
 
-// The five figures.
-// No `From`: it asks that every figure is below 2^53, which a `From` could not.
+// The five figures. It asks that they are below 2^53, so it is no `From`, which takes every record.
 pub(crate) fn floats_of(f: figures::Figures) -> Floats
     requires { Below2^53 f }
     ensures { result ≡ floats_of f }

@@ -28,6 +28,7 @@ fn place(account: i64) -> Result<usize, Refusal>
     if !whole::lies_between(0, account, LAST_ACCOUNT) {
         return Err(Refusal::NoAccount);
     }
+    // The test says that the cast loses nothing; `try_from` would ask it again.
     Ok(account as usize)
 }
 

@@ -21,6 +21,7 @@ fn order_checks(clearing: &[i64], o: Terms) -> Result<(), Refusal>
     if !book::choice_right(o) {
         return Err(Refusal::WrongChoice);
     }
+    // The asset is an index only past the test above, so two tests answer 7; one condition of both reads no shorter.
     if !rates::is_listed(clearing, o.asset as usize) {
         return Err(Refusal::WrongChoice);
     }
@@ -30,7 +31,8 @@ fn order_checks(clearing: &[i64], o: Terms) -> Result<(), Refusal>
     Ok(())
 }
 
-// Every code of an order before 10, or the account's place.
+// Every code of an order before 10, or the account's place. A move's gate is another function: what they check and what must fit differ, and one function
+// of both would take that as three closures.
 fn order_gate(book: &[i64], tables: Tables<'_>, account: i64, o: Terms) -> Result<usize, Refusal>
     ensures code { answer_code result ≡ first_code (order_stands (numbers_of tables.entry) (place_of account) o (state book.now)) }
     ensures place { IfOk result (λ i. i ≡ place_of account) }

@@ -14,7 +14,7 @@ use rates::Tables;
 use whole::Refusal;
 
 // The engine's calls for other languages: each passes its numbers and slices on. A slice is a pointer and a length; a number is itself.
-// include/single_limit.h declares them.
+// include/single_limit.h declares them, so each answers a code, a number, and takes the tables one by one.
 
 // Numbers of a report.
 const FIGURES: usize = 5;
