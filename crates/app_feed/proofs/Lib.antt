@@ -10,3 +10,4 @@ pub mod Share
 pub mod Refused
 pub mod Promised
 pub mod Examples
+pub mod Marked

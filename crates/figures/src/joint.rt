@@ -41,7 +41,8 @@ impl<'a> Valued<'a> {
         requires { a < 16 }
         ensures { result ≡ every self.entry.members.count (λ k. all_zero (holding_in self.entry k a)) }
     {
-        is_nothing(self.holding(0, a)) && (1..self.members.count).all(|k| is_nothing(self.holding(k, a)))
+        is_nothing(self.holding(0, a))
+            && (1..self.members.count).all(|k| is_nothing(self.holding(k, a)))
     }
 
     // The record of asset a over the members: the first one's, with each other's added.

@@ -1,21 +1,12 @@
 -- `reading::all_patterns` meets its contract: each number is asked, and the marks are all true where it passes. Assumes nothing.
-use mathlib.Core.Path.{◌≡◌, refl, ap, ◌∙◌}
-use mathlib.Core.Bool.{Bool, ◌&&◌}
-use mathlib.Core.List.{List, [], ◌∷◌, map}
-use Prim.Native.Nat.{ℕ}
+use mathlib.Core.Path.{◌∙◌}
 use borrow.Author.Tests.{tests}
-use Rattle.std.specs.List.{list_all}
 use Rattle.std.proofs.Common.{rules}
 use Rattle.std.proofs.lemmas.Iterator.{YieldsList-from_slice}
 use Rattle.std.proofs.lemmas.Iterator.Search.{all_from_yields_List}
-use Rattle.whole.specs.Marks.{all_true}
 use Rattle.app_feed.specs.Received.{is_pattern}
+use Rattle.app_feed.proofs.Marked.{all_marks}
 use Rattle.app_feed.proofs.reading.all_patterns.Goals as goal
-
-all_marks : {A : Type 0} (p : A → Bool) (xs : List A) → list_all p xs ≡ all_true (map p xs)
-unfolding all_true
-all_marks p [] = refl
-all_marks p (x ∷ xs) = ap (λ (t : Bool). p x && t) (all_marks p xs)
 
 pub returns : goal.returns
 returns c =
