@@ -52,7 +52,7 @@ pub has_bits : (z : ℤ) → nat_abs z < 2 ^ 53 → HasBits (float z)
 has_bits (pos n) h = valued (float (pos n)) false n (is_exactly (pos n) h)
 has_bits (negsuc n) h = valued (float (negsuc n)) true (suc n) (is_exactly (negsuc n) h)
 
-pub all_have_bits : (f : Figures) → Below2^53 f → AllHaveBits (floats_of f)
+pub all_have_bits : (f : Figures ℤ) → Below2^53 f → AllHaveBits (floats_of f)
 unfolding floats_of
 all_have_bits f below = record {
   valuation = has_bits f.valuation below.valuation_below;

@@ -27,16 +27,16 @@ share_small : (u v l : ℤ) → pos 0 ≤ℤ u → l ≡ v -ℤ u → lt_z l (po
 share_small u v l low e h s = omega (ints, s, abs_is u, abs_is v, one_is_zero u, one_is_zero v)
 
 -- the shortfall and the sums, as the code works them out
-abbrev pub shortfall : Figures → Expression
+abbrev pub shortfall : Figures ℤ → Expression
 shortfall f = lit 0 ⊖ var f.limit
 
-abbrev pub risks : Figures → Expression
+abbrev pub risks : Figures ℤ → Expression
 risks f = var f.market ⊕ var f.interest
 
-abbrev pub used_up : Figures → Expression
+abbrev pub used_up : Figures ℤ → Expression
 used_up f = risks f ⊖ var f.discount
 
-module _ {f : Figures} (below : Below2^53 f) where
+module _ {f : Figures ℤ} (below : Below2^53 f) where
   pub shortfall_runs : Runs (shortfall f)
   shortfall_runs =
       let l = below.limit_below in
@@ -83,21 +83,21 @@ module _ {f : Figures} (below : Below2^53 f) where
 pub ruleset gauges = (not_empty, is_over, not_over)
 
 -- ---- the three cases, and what the last one casts
-pub shows_nothing : (f : Figures) → Below2^53 f → le_z (back f.valuation) (pos 0) ≡ true → gauge_of f ≡ Empty
+pub shows_nothing : (f : Figures ℤ) → Below2^53 f → le_z (back f.valuation) (pos 0) ≡ true → gauge_of f ≡ Empty
 unfolding gauge_of
 shows_nothing f below e = rw (is_empty below e) refl
 
-pub shows_over : (f : Figures) {x : Float} → Below2^53 f → le_z f.valuation (pos 0) ≡ false → lt_z f.limit (pos 0) ≡ true → x ≡ float (held (shortfall f))
+pub shows_over : (f : Figures ℤ) {x : Float} → Below2^53 f → le_z f.valuation (pos 0) ≡ false → lt_z f.limit (pos 0) ≡ true → x ≡ float (held (shortfall f))
     → ◌≡◌ {A = Gauge} (Over x) (gauge_of f)
 unfolding gauge_of
 shows_over f below above over e =
     rw (above, over) (ap Over (e ∙ ap float (runs (shortfall f) (shortfall_runs below) ∙ +ℤ_idl (neg_ℤ f.limit))))
 
-pub used_small : (f : Figures) → Below2^53 f → Balanced f → lt_z (back f.limit) (pos 0) ≡ false → nat_abs (held (used_up f)) < 2 ^ 53
+pub used_small : (f : Figures ℤ) → Below2^53 f → Balanced f → lt_z (back f.limit) (pos 0) ≡ false → nat_abs (held (used_up f)) < 2 ^ 53
 used_small f below balanced e =
     rw (runs (used_up f) (used_runs below)) (share_small (used f) f.valuation f.limit balanced.used_from_zero balanced.limit_is (not_over below e) below.valuation_below)
 
-pub shows_share : (f : Figures) {x y : Float} → Below2^53 f → le_z f.valuation (pos 0) ≡ false → lt_z f.limit (pos 0) ≡ false
+pub shows_share : (f : Figures ℤ) {x y : Float} → Below2^53 f → le_z f.valuation (pos 0) ≡ false → lt_z f.limit (pos 0) ≡ false
     → x ≡ float (held (used_up f)) → y ≡ float (back f.valuation)
     → ◌≡◌ {A = Gauge} (Used (div binary64 x y)) (gauge_of f)
 unfolding gauge_of

@@ -42,7 +42,7 @@ use Rattle.app_feed.proofs.Sending.{count_wrong, whole_code, passed_all}
 use Rattle.app_feed.proofs.Share.{share}
 
 -- ---- each float is exactly the whole number
-are_exactly : (f : Figures) → Below2^53 f → AreExactly (floats_of f) f
+are_exactly : (f : Figures ℤ) → Below2^53 f → AreExactly (floats_of f) f
 unfolding floats_of
 are_exactly f below = record {
   valuation = is_exactly f.valuation below.valuation_below;
@@ -60,7 +60,7 @@ no_figures_below =
 at_most : (part whole limit : ℤ) → limit ≡ whole -ℤ part → lt_z limit (pos 0) ≡ false → part ≤ℤ whole
 at_most part whole limit e h = omega ints
 
-module _ (f : Figures) (below : Below2^53 f) (balanced : Balanced f) where
+module _ (f : Figures ℤ) (below : Below2^53 f) (balanced : Balanced f) where
   by_case : (none over : Bool) → le_z f.valuation (pos 0) ≡ none → lt_z f.limit (pos 0) ≡ over
       → Gauges f (cond none Empty (cond over (Over (float (neg_ℤ f.limit))) (Used (div binary64 (float (used f)) (float f.valuation)))))
   by_case true over e h = record { le = subst T (sym e) tt }
@@ -91,7 +91,7 @@ same_float z = of_bits-to_bits binary64 (float z) (of_int-fits binary64 z)
 same_number : (n : ℕ) → n < 2 ^ 64 → is_pattern n ≡ true → to_bits binary64 (of_bits binary64 n) ≡ n
 same_number n h e = to_bits-of_bits binary64 n h (subst (λ (b : Bool). T (not b)) (nan_bits_is binary64 n) (subst T (sym e) tt))
 
-module _ (f : Figures) (below : Below2^53 f) where
+module _ (f : Figures ℤ) (below : Below2^53 f) where
   all_patterned : all_true (map is_pattern (bits_of (floats_of f))) ≡ true
   unfolding bits_of floats_of
   all_patterned =
@@ -165,7 +165,7 @@ module _ (tables : Tables) (i : ℕ) (s : State) (bits : List ℕ) where
   refuses h =
       let f : (answer_of _ (figures_at tables i s)).figures ≡ no_figures = sym (kept _ (figures_at tables i s) no_figures h) in
       record {
-        zeros = subst (λ (f : Figures). AreExactly (floats_of f) no_figures) (sym f) (are_exactly no_figures no_figures_below);
+        zeros = subst (λ (f : Figures ℤ). AreExactly (floats_of f) no_figures) (sym f) (are_exactly no_figures no_figures_below);
         empty = ap gauge_of f;
         stays = sym (kept _ _ bits h);
       }

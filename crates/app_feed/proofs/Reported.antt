@@ -81,7 +81,7 @@ size_below z e = let a = amid e in omega (ints, abs_is z, one_is_zero z)
 below_size : (z : ℤ) → nat_abs z < 2 ^ 53 → is_below z ≡ true
 below_size z h = between_yes (omega (ints, abs_is z, one_is_zero z)) (omega (ints, abs_is z, one_is_zero z))
 
-pub below_tested : (f : Figures) → BelowTested f
+pub below_tested : (f : Figures ℤ) → BelowTested f
 unfolding all_below
 below_tested f = record {
   passes = λ b. sym (passes (next (below_size _ b.valuation_below) (next (below_size _ b.market_below) (next (below_size _ b.interest_below)

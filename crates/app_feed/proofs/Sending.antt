@@ -4,6 +4,7 @@ use mathlib.Core.Bool.{Bool, true, false, not, cond}
 use mathlib.Core.List.{List, [], ◌∷◌, ◌++◌}
 use Prim.Native.Nat.{ℕ}
 use lib.Dec.{eqb}
+use lib.IntN.{ℤ}
 use lib.ListN.{length}
 use borrow.Author.Tests.{eq-eqb, ne_eqb, eqb-true, eqb-false, not-false}
 use Rattle.whole.specs.Refusals.{Refusal, ◌gives◌, first_code, leaves, out_of_bounds}
@@ -57,7 +58,7 @@ module _ (tables : Tables) (i : ℕ) (s : State) (bits : List ℕ) where
       by : (t : Bool) → eqb n 0 ≡ t → cond t (cond (all_below (leaves n (figures_at tables i s) no_figures)) 0 out_of_bounds) n ≡ first_code (report_refusals tables i s ++ nine)
       by true e =
           let z = eqb-true n 0 e in
-          ap (λ (f : Figures). cond (all_below f) 0 out_of_bounds) (sym (changed n (figures_at tables i s) no_figures z))
+          ap (λ (f : Figures ℤ). cond (all_below f) 0 out_of_bounds) (sym (changed n (figures_at tables i s) no_figures z))
           ∙ tested (all_below (figures_at tables i s))
           ∙ sym (goes_on (report_refusals tables i s) nine tt z)
       by false e = stops (report_refusals tables i s) nine refl (eqb-false n 0 e)

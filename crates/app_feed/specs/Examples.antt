@@ -14,11 +14,11 @@ pub record Seen : Type 0 where
   pub shown : ℕ
 
 pub record Example : Type 0 where
-  pub figures : Figures
+  pub figures : Figures ℤ
   pub seen : Seen
 
 -- what goes out of figures
-abbrev pub seen_of : Figures → Seen
+abbrev pub seen_of : Figures ℤ → Seen
 seen_of f = record { bits = bits_of (floats_of f); gauge = gauge_number (gauge_of f); shown = to_bits binary64 (gauge_shown (gauge_of f)) }
 
 -- valuation, market risk, interest risk, discount and limit; five numbers, gauge and what it shows

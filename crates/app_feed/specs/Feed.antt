@@ -1,7 +1,7 @@
 -- Document 02, #102: the feed. What a report is lent, and five lent 64-bit numbers; out go the report's code, its figures as floats and the gauge, and
 -- unless refused the floats' bits in the five numbers.
 -- Assumes nothing.
-use Rattle.std.specs.Prelude.{not, List, [], ◌∷◌, ◌++◌, ℕ, Result, Ok, Err, eqb, length}
+use Rattle.std.specs.Prelude.{not, List, [], ◌∷◌, ◌++◌, ℕ, Result, Ok, Err, eqb, length, Float}
 use Rattle.std.specs.Borrow.{MutBor}
 use denote.Triple.Both.{Both}
 use Rattle.whole.specs.Refusals.{Refusal, ◌gives◌, first_code, leaves, wrong_length, out_of_bounds}
@@ -14,7 +14,7 @@ use Rattle.engine.specs.Report.{Reported, answer_of, no_figures}
 use Rattle.app_feed.specs.Floats.{floats_of, bits_of, all_below}
 use Rattle.app_feed.specs.Gauge.{gauge_of}
 use Rattle.app_feed.specs.declared.feeding.Fed.{Fed as Feeding}
-use Rattle.app_feed.specs.declared.floats.Floats.{Floats}
+use Rattle.figures.specs.declared.limit.Figures.{Figures}
 use Rattle.app_feed.specs.declared.gauge.Gauge.{Gauge}
 use Rattle.app_feed.specs.declared.gauge.Gauge.TheVariants.{Empty}
 
@@ -27,7 +27,7 @@ feed_refusals tables i s count =
 -- what goes out: the report's code, its figures as floats and the gauge
 pub record Fed : Type 0 where
   pub code : ℕ
-  pub figures : Floats
+  pub figures : Figures Float
   pub gauge : Gauge
 
 -- a report as the app takes it; of a refused one, whose figures are zeros, zeros and the empty gauge

@@ -1,20 +1,19 @@
 -- Document 02, #102: the five figures of a report as one record of floats, and the five 64-bit numbers that carry the floats' bits in report order.
 -- A float is a value of IEEE 754's binary64, as the kit's library has it.
 -- Assumes nothing.
-use Rattle.std.specs.Prelude.{Bool, not, List, [], ◌∷◌, map, ℕ, T, ℤ, pos, neg_ℤ, get_or, Float}
+use Rattle.std.specs.Prelude.{Bool, not, List, map, ℕ, T, ℤ, pos, neg_ℤ, get_or, Float}
 use Rattle.std.specs.Float.{binary64}
 use Rattle.std.specs.Float.Ieee.{of_int, to_bits, of_bits, is_nan}
 use Rattle.whole.specs.Bounds.{between}
 use Rattle.whole.specs.Marks.{all_true}
-use Rattle.figures.specs.Limit.{five}
+use Rattle.figures.specs.Limit.{five, EachFigure}
 use Rattle.figures.specs.declared.limit.Figures.{Figures}
-use Rattle.app_feed.specs.declared.floats.Floats.{Floats}
 
 -- a whole number of kopecks as a float
 abbrev pub float : ℤ → Float
 float kopecks = of_int binary64 kopecks
 
-unfoldable pub floats_of : Figures → Floats
+unfoldable pub floats_of : Figures ℤ → Figures Float
 floats_of f = record {
   valuation = float f.valuation;
   market = float f.market;
@@ -30,30 +29,22 @@ most_exact = 9007199254740991
 abbrev pub is_below : ℤ → Bool
 is_below kopecks = between (neg_ℤ (pos most_exact)) kopecks (pos most_exact)
 
-unfoldable pub all_below : Figures → Bool
+unfoldable pub all_below : Figures ℤ → Bool
 all_below f = all_true (map is_below (five f))
 
--- the five in report order
-abbrev pub five_floats : Floats → List Float
-five_floats x = x.valuation ∷ x.market ∷ x.interest ∷ x.discount ∷ x.limit ∷ []
-
--- a record as five numbers, and five numbers as a record
-unfoldable pub bits_of : Floats → List ℕ
-bits_of x = map (to_bits binary64) (five_floats x)
+-- a record as five numbers, in report order, and five numbers as a record
+unfoldable pub bits_of : Figures Float → List ℕ
+bits_of x = map (to_bits binary64) (five x)
 
 abbrev pub float_at : List ℕ → ℕ → Float
 float_at bits k = of_bits binary64 (get_or bits k 0)
 
-unfoldable pub floats_at : List ℕ → Floats
+unfoldable pub floats_at : List ℕ → Figures Float
 floats_at bits = record { valuation = float_at bits 0; market = float_at bits 1; interest = float_at bits 2; discount = float_at bits 3; limit = float_at bits 4 }
 
 -- a float that has bits of its own: every one but a NaN, whose sign and payload the language does not hold
 abbrev pub HasBits : Float → Type 0
 HasBits x = T (not (is_nan x))
 
-pub record AllHaveBits (x : Floats) : Type 0 where
-  pub valuation : HasBits x.valuation
-  pub market : HasBits x.market
-  pub interest : HasBits x.interest
-  pub discount : HasBits x.discount
-  pub limit : HasBits x.limit
+abbrev pub AllHaveBits : Figures Float → Type 0
+AllHaveBits x = EachFigure HasBits x

@@ -10,11 +10,11 @@ use Rattle.app_feed.specs.declared.gauge.Gauge.{Gauge}
 use Rattle.app_feed.specs.declared.gauge.Gauge.TheVariants.{Empty, Over, Used}
 
 -- market risk plus interest risk less discount
-abbrev pub used : Figures → ℤ
+abbrev pub used : Figures ℤ → ℤ
 used f = f.market +ℤ f.interest -ℤ f.discount
 
 -- nothing to show when valuation is zero or less; over, carrying the shortfall, when the limit is negative; else used, one rounding of one division
-unfoldable pub gauge_of : Figures → Gauge
+unfoldable pub gauge_of : Figures ℤ → Gauge
 gauge_of f =
     cond (le_z f.valuation (pos 0)) Empty
     (cond (lt_z f.limit (pos 0)) (Over (float (neg_ℤ f.limit)))
@@ -32,6 +32,6 @@ gauge_shown (Over shortfall) = shortfall
 gauge_shown (Used share) = share
 
 -- ---- what figures must keep for the division to be of exact numbers: of a report they do
-pub record Balanced (f : Figures) : Type 0 where
+pub record Balanced (f : Figures ℤ) : Type 0 where
   pub used_from_zero : pos 0 ≤ℤ used f
   pub limit_is : f.limit ≡ f.valuation -ℤ used f

@@ -19,7 +19,6 @@ use Rattle.app_feed.specs.Floats.{float, bits_of, all_below}
 use Rattle.app_feed.specs.Gauge.{used}
 use Rattle.app_feed.specs.Feed.{sent_of}
 use Rattle.app_feed.specs.Received.{received_of}
-use Rattle.app_feed.specs.declared.floats.Floats.{Floats}
 use Rattle.app_feed.specs.declared.gauge.Gauge.{Gauge}
 use Rattle.app_feed.specs.declared.gauge.Gauge.TheVariants.{Empty, Over, Used}
 
@@ -27,7 +26,7 @@ use Rattle.app_feed.specs.declared.gauge.Gauge.TheVariants.{Empty, Over, Used}
 abbrev pub ReportsBelow : Type 0
 ReportsBelow = (tables : Tables) (i : ℕ) (s : State) → Unshared s.book i → (report_of tables i s).code ≡ 0 → Below2^53 (report_of tables i s).figures
 
-pub record BelowTested (f : Figures) : Type 0 where
+pub record BelowTested (f : Figures ℤ) : Type 0 where
   pub passes : Below2^53 f → all_below f ≡ true
   pub only : all_below f ≡ true → Below2^53 f
 
@@ -40,7 +39,7 @@ abbrev pub IsExactly : Float → ℤ → Type 0
 IsExactly x (pos n) = HasValue x false n 1
 IsExactly x (negsuc n) = HasValue x true (suc n) 1
 
-pub record AreExactly (x : Floats) (f : Figures) : Type 0 where
+pub record AreExactly (x : Figures Float) (f : Figures ℤ) : Type 0 where
   pub valuation : IsExactly x.valuation f.valuation
   pub market : IsExactly x.market f.market
   pub interest : IsExactly x.interest f.interest
@@ -71,7 +70,7 @@ pub record IsShare (x : Float) (part whole : ℤ) : Type 0 where
   pub at_most_1 : T (le x (float (pos 1)))
 
 -- the gauge of a report's figures, case by case
-abbrev pub Gauges : Figures → Gauge → Type 0
+abbrev pub Gauges : Figures ℤ → Gauge → Type 0
 Gauges f Empty = f.valuation ≤ℤ pos 0
 Gauges f (Over shortfall) = (pos 0 <ℤ f.valuation) × (f.limit <ℤ pos 0) × IsExactly shortfall (neg_ℤ f.limit)
 Gauges f (Used share) = (pos 0 <ℤ f.valuation) × (pos 0 ≤ℤ f.limit) × IsShare share (used f) f.valuation

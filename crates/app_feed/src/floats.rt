@@ -1,18 +1,15 @@
 ghost use Rattle.std.specs.Prelude.{◌≡◌, ◌<◌, ◌^◌, nat_abs};
+ghost use Rattle.std.specs.Float.{binary64};
+ghost use Rattle.std.specs.Float.Ieee.{to_bits};
 ghost use Rattle.figures.specs.Ranges.{Below2^53};
-ghost use Rattle.app_feed.specs.Floats.{float, floats_of, bits_of, is_below, all_below, AllHaveBits};
+ghost use Rattle.app_feed.specs.Floats.{float, floats_of, bits_of, is_below, all_below, HasBits, AllHaveBits};
+
+use figures::Figures;
 
 // The five figures as floats, and their bits.
 
 // A report's figures in kopecks, each exactly the whole number.
-#[derive(Clone, Copy, Debug, PartialEq)]
-pub struct Floats {
-    pub valuation: f64,
-    pub market: f64,
-    pub interest: f64,
-    pub discount: f64,
-    pub limit: f64,
-}
+pub type Floats = Figures<f64>;
 
 // Numbers that carry a record's bits.
 pub(crate) const COUNT: usize = 5;
@@ -27,15 +24,11 @@ fn is_below(kopecks: i64) -> bool
     whole::lies_between(-MOST_EXACT, kopecks, MOST_EXACT)
 }
 
-// Whether all five are: five tests with no branch between them, as the record has its fields by name.
-pub(crate) fn all_below(f: figures::Figures) -> bool
+// Whether all five are.
+pub(crate) fn all_below(f: Figures<i64>) -> bool
     ensures { result ≡ all_below f }
 {
-    is_below(f.valuation)
-        & is_below(f.market)
-        & is_below(f.interest)
-        & is_below(f.discount)
-        & is_below(f.limit)
+    f.five().iter().all(|kopecks| is_below(*kopecks))
 }
 
 // One figure: the cast loses nothing.
@@ -48,17 +41,11 @@ pub(crate) fn exact(kopecks: i64) -> f64
 }
 
 // The five figures. It asks that they are below 2^53, so it is no `From`, which takes every record.
-pub(crate) fn floats_of(f: figures::Figures) -> Floats
+pub(crate) fn floats_of(f: Figures<i64>) -> Floats
     requires { Below2^53 f }
     ensures { result ≡ floats_of f }
 {
-    Floats {
-        valuation: exact(f.valuation),
-        market: exact(f.market),
-        interest: exact(f.interest),
-        discount: exact(f.discount),
-        limit: exact(f.limit),
-    }
+    f.map(exact)
 }
 
 // Their bits, in report order.
@@ -66,11 +53,9 @@ pub(crate) fn bits_of(x: Floats) -> [u64; COUNT]
     requires { AllHaveBits x }
     ensures { result ≡ bits_of x }
 {
-    [
-        f64::to_bits(x.valuation),
-        f64::to_bits(x.market),
-        f64::to_bits(x.interest),
-        f64::to_bits(x.discount),
-        f64::to_bits(x.limit),
-    ]
+    let bits = |x: f64| -> u64
+        requires { HasBits x }
+        ensures { result ≡ to_bits binary64 x }
+    { f64::to_bits(x) };
+    x.map(bits).five()
 }

@@ -23,7 +23,7 @@ pub const USED: u8 = 2;
 
 // A valuation of zero or less is asked first: there is nothing to divide by. Both operands of the division are exact, so it is the one rounding.
 #[tactic(auto, using(crate::proofs::Gauges::shows_nothing, crate::proofs::Gauges::used_small))]
-pub(crate) fn gauge_of(f: figures::Figures) -> Gauge
+pub(crate) fn gauge_of(f: figures::Figures<i64>) -> Gauge
     requires { Below2^53 f × Balanced f }
     ensures { result ≡ gauge_of f }
 {

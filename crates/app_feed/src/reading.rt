@@ -5,6 +5,7 @@ ghost use Rattle.app_feed.specs.Received.{is_pattern, received_as, received_of};
 
 use crate::floats;
 use crate::floats::Floats;
+use figures::Figures;
 use whole::Refusal;
 
 // Five numbers read back as a record of floats.
@@ -34,7 +35,7 @@ fn floats_at(bits: &[u64]) -> Floats
     requires { (length bits.now ≡ 5) × (all_true (map is_pattern bits.now) ≡ true) }
     ensures { result ≡ floats_at bits.now }
 {
-    Floats {
+    Figures {
         valuation: f64::from_bits(bits[0]),
         market: f64::from_bits(bits[1]),
         interest: f64::from_bits(bits[2]),

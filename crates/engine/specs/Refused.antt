@@ -87,7 +87,7 @@ move_stands tables i asset amount s =
 
 -- ---- code 10
 -- an account's figures are those of its code (clause 4.11), and so is its Single Limit
-abbrev pub figures_at : Tables → ℕ → State → Figures
+abbrev pub figures_at : Tables → ℕ → State → Figures ℤ
 figures_at tables i s = figures_on (on_code s.book i) (kind_at s.book i) (block_of s.book) tables
 
 abbrev pub limit_of : Tables → ℕ → State → ℤ

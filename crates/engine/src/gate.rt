@@ -81,7 +81,7 @@ pub(crate) fn report_gate(book: &[i64], tables: Tables<'_>, account: i64) -> Res
 }
 
 // The figures of an account that may be judged: those of every block of its code together.
-pub(crate) fn figures_at(book: &[i64], tables: Tables<'_>, i: usize) -> Figures
+pub(crate) fn figures_at(book: &[i64], tables: Tables<'_>, i: usize) -> Figures<i64>
     requires { Judgeable (numbers_of tables) i (state book.now) }
     ensures { result ≡ figures_at (numbers_of tables.entry) i (state book.now) }
 {

@@ -21,7 +21,7 @@ pub fn check_tables(tables: Tables<'_>) -> Result<(), Fault>
 }
 
 // Report an account: its five figures.
-pub fn report(book: &[i64], tables: Tables<'_>, account: i64) -> Result<Figures, Refusal>
+pub fn report(book: &[i64], tables: Tables<'_>, account: i64) -> Result<Figures<i64>, Refusal>
     ensures { reported_as result ≡ report_of (numbers_of tables.entry) (place_of account) (state book.now) }
 {
     let i = gate::report_gate(book, tables, account)?;

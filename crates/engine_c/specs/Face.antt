@@ -12,7 +12,6 @@ use Rattle.book.specs.declared.terms.Terms.{Terms}
 use Rattle.figures.specs.Limit.{five}
 use Rattle.engine.specs.State.{State}
 use Rattle.engine.specs.Report.{report_of}
-use Rattle.app_feed.specs.Floats.{five_floats}
 use Rattle.app_feed.specs.Gauge.{gauge_number, gauge_shown}
 use Rattle.app_feed.specs.Feed.{LentBits, sent_of}
 use Rattle.app_feed.specs.Received.{received_of}
@@ -37,7 +36,7 @@ filled_report tables i s = fills (report_of tables i s).code (five (report_of ta
 
 -- document 02, #102: five numbers read back
 unfoldable pub filled_floats : List ℕ → List Float → Filled Float
-filled_floats bits = fills (received_of bits).code (five_floats (received_of bits).figures)
+filled_floats bits = fills (received_of bits).code (five (received_of bits).figures)
 
 -- 1 where the asset's row in force keeps its rules and passes the cover test, else 0
 unfoldable pub covered : List ℤ → List ℤ → ℤ → ℕ

@@ -151,13 +151,7 @@ pub extern "C" fn single_limit_report<'a>(
     };
     match engine::report(book, tables, account) {
         Ok(found) => {
-            figures.copy_from_slice(&[
-                found.valuation,
-                found.market,
-                found.interest,
-                found.discount,
-                found.limit,
-            ]);
+            figures.copy_from_slice(&found.five());
             DONE
         }
         Err(refusal) => {
@@ -208,13 +202,7 @@ pub extern "C" fn single_limit_app_read(bits: &[u64], figures: &mut [f64]) -> u8
     }
     match app_feed::receive(bits) {
         Ok(read) => {
-            figures.copy_from_slice(&[
-                read.valuation,
-                read.market,
-                read.interest,
-                read.discount,
-                read.limit,
-            ]);
+            figures.copy_from_slice(&read.five());
             DONE
         }
         Err(refusal) => {

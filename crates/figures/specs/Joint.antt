@@ -23,11 +23,11 @@ module _ (sum : (ℕ → ℤ) → ℤ) (account_kind : ℕ) (blocks : ℕ → Li
       let row = in_force tables.clearing tables.own a in
       part_of row (joint_of sum account_kind row (λ j. holding_of (blocks j) a))
 
-  unfoldable pub joint_figures : Figures
+  unfoldable pub joint_figures : Figures ℤ
   joint_figures = figures_of (totals_of joint_part assets) tables.groups (sum (λ j. rubles_of (blocks j)))
 
 -- of those accounts that pass a test: the figures of a settlement code are those of the accounts on it
-abbrev pub figures_on : (ℕ → Bool) → ℕ → (ℕ → List ℤ) → Tables → Figures
+abbrev pub figures_on : (ℕ → Bool) → ℕ → (ℕ → List ℤ) → Tables → Figures ℤ
 figures_on on = joint_figures (Σ<on accounts on)
 
 -- of the members of a list, as code has them
@@ -35,7 +35,7 @@ module _ (members : Members) (book : List ℤ) (tables : Tables) where
   abbrev pub member_part : ℕ → Part
   member_part = joint_part (over_members members) members.kind (block_of book) tables
 
-  abbrev pub member_figures : Figures
+  abbrev pub member_figures : Figures ℤ
   member_figures = joint_figures (over_members members) members.kind (block_of book) tables
 
 -- member k's holding of asset a, in blocks that are valued together

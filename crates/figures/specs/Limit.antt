@@ -44,7 +44,7 @@ discount groups totals = Σ< group_count (discount_of groups totals.long totals.
 unfoldable pub single_limit : ℤ → ℤ → ℤ → ℤ → ℤ
 single_limit valuation market interest discount = valuation -ℤ market -ℤ interest +ℤ discount
 
-unfoldable pub figures_of : Totals → List ℤ → ℤ → Figures
+unfoldable pub figures_of : Totals → List ℤ → ℤ → Figures ℤ
 figures_of totals groups rubles = record {
   valuation = totals.valuation +ℤ rubles;
   market = totals.market;
@@ -53,9 +53,24 @@ figures_of totals groups rubles = record {
   limit = single_limit (totals.valuation +ℤ rubles) totals.market totals.interest (discount groups totals);
 }
 
--- the five figures in a report's order
-abbrev pub five : Figures → List ℤ
+-- the five figures in a report's order, of whole numbers or of floats
+abbrev pub five : {N : Type 0} → Figures N → List N
 five f = f.valuation ∷ f.market ∷ f.interest ∷ f.discount ∷ f.limit ∷ []
+
+-- a fact of each of the five, and what gives five of five, each of its own
+pub record EachFigure {N : Type 0} (Fact : N → Type 0) (f : Figures N) : Type 0 where
+  pub valuation : Fact f.valuation
+  pub market : Fact f.market
+  pub interest : Fact f.interest
+  pub discount : Fact f.discount
+  pub limit : Fact f.limit
+
+pub record EachFigureGives {N M : Type 0} (Gives : N → M → Type 0) (f : Figures N) (g : Figures M) : Type 0 where
+  pub valuation : Gives f.valuation g.valuation
+  pub market : Gives f.market g.market
+  pub interest : Gives f.interest g.interest
+  pub discount : Gives f.discount g.discount
+  pub limit : Gives f.limit g.limit
 
 -- ---- one account's block under the lent tables
 unfoldable pub rubles_of : List ℤ → ℤ
@@ -66,7 +81,7 @@ part_in block tables a =
     let row = in_force tables.clearing tables.own a in
     part_of row (asset_of (nat_abs (account_kind block)) row (holding_of block a))
 
-unfoldable pub block_figures : List ℤ → Tables → Figures
+unfoldable pub block_figures : List ℤ → Tables → Figures ℤ
 block_figures block tables = figures_of (totals_of (part_in block tables) assets) tables.groups (rubles_of block)
 
 -- ---- one more asset, as the loop over the assets adds it

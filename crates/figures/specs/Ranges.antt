@@ -24,7 +24,7 @@ pub record TotalRanges (n : ℕ) (totals : Totals) : Type 0 where
   pub short_range : GroupRanges n totals.short
 
 -- every figure, in size: what a float holds without loss
-pub record Below2^53 (f : Figures) : Type 0 where
+pub record Below2^53 (f : Figures ℤ) : Type 0 where
   pub valuation_below : nat_abs f.valuation < 2 ^ 53
   pub market_below : nat_abs f.market < 2 ^ 53
   pub interest_below : nat_abs f.interest < 2 ^ 53
@@ -32,7 +32,7 @@ pub record Below2^53 (f : Figures) : Type 0 where
   pub limit_below : nat_abs f.limit < 2 ^ 53
 
 -- of one block or of several: the discount lies from 0 to the market risk, and interest risk is from 0 up
-pub record RiskBounds (f : Figures) : Type 0 where
+pub record RiskBounds (f : Figures ℤ) : Type 0 where
   pub discount_low : pos 0 ≤ℤ f.discount
   pub discount_high : f.discount ≤ℤ f.market
   pub interest_low : pos 0 ≤ℤ f.interest

@@ -6,7 +6,7 @@ ghost use Rattle.rates.specs.Ranges.{TableRanges};
 ghost use Rattle.book.specs.Block.{block_of};
 ghost use Rattle.book.specs.Ranges.{BlockRanges};
 ghost use Rattle.book.specs.Members.{over_members, MemberRanges};
-ghost use Rattle.figures.specs.Limit.{discount_of, figures_of, rubles_of};
+ghost use Rattle.figures.specs.Limit.{discount_of, figures_of, five, rubles_of, EachFigure, EachFigureGives};
 ghost use Rattle.figures.specs.Joint.{member_figures};
 ghost use Rattle.figures.specs.Ranges.{GroupRanges, PercentRanges, TotalRanges};
 
@@ -19,14 +19,43 @@ use rates::units::GROUP_COUNT;
 
 // The discount, and the five figures (document 01; clause 7 and Single Limit).
 
-// The five figures of a report.
+// The five figures of a report, each a number of N: i64 in kopecks, or f64 as the phone app takes them.
 #[derive(Clone, Copy, Debug, PartialEq, Eq)]
-pub struct Figures {
-    pub valuation: i64,
-    pub market: i64,
-    pub interest: i64,
-    pub discount: i64,
-    pub limit: i64,
+pub struct Figures<N> {
+    pub valuation: N,
+    pub market: N,
+    pub interest: N,
+    pub discount: N,
+    pub limit: N,
+}
+
+impl<N: Copy> Figures<N> {
+    // The five in a report's order.
+    pub fn five(self) -> [N; 5]
+        ensures { result ≡ five self }
+    {
+        [
+            self.valuation,
+            self.market,
+            self.interest,
+            self.discount,
+            self.limit,
+        ]
+    }
+
+    // What f gives of each of the five.
+    pub fn map<M, F: Fn(N) -> M>(self, f: F) -> Figures<M>
+        requires { EachFigure (F.pre f) self }
+        ensures { EachFigureGives (F.post f) self result }
+    {
+        Figures {
+            valuation: f(self.valuation),
+            market: f(self.market),
+            interest: f(self.interest),
+            discount: f(self.discount),
+            limit: f(self.limit),
+        }
+    }
 }
 
 const HUNDRED_PERCENT: i64 = 100;
@@ -74,7 +103,7 @@ fn joint_rubles(valued: Valued<'_>) -> i64
 }
 
 // The five figures from the sums.
-fn figures_of(totals: Totals, groups: &[i64], rubles: i64) -> Figures
+fn figures_of(totals: Totals, groups: &[i64], rubles: i64) -> Figures<i64>
     requires { TotalRanges 16 totals × PercentRanges groups.now × (rubles within 3600000000000000) }
     ensures { result ≡ figures_of totals groups.now rubles }
 {
@@ -95,7 +124,7 @@ fn figures_of(totals: Totals, groups: &[i64], rubles: i64) -> Figures
 }
 
 // The five figures of the members.
-pub fn joint_figures(book: &[i64], members: Members, tables: Tables<'_>) -> Figures
+pub fn joint_figures(book: &[i64], members: Members, tables: Tables<'_>) -> Figures<i64>
     requires { MemberRanges book.now members × TableRanges (numbers_of tables) }
     ensures { result ≡ member_figures members book.now (numbers_of tables.entry) }
 {

@@ -42,7 +42,7 @@ two_lists a a' b b' c c' e f = by (eqb (first_code a) 0) refl
     by false t = let h = eqb-false _ _ t in refused a b h ∙ e ∙ sym (refused a' b' (λ z. h (e ∙ z)))
 
 -- ---- answers with the same code, and the same figures where it is 0
-pub same_answer : (n m : ℕ) (x y : Figures) → n ≡ m → (n ≡ 0 → x ≡ y) → answer_of n x ≡ answer_of m y
+pub same_answer : (n m : ℕ) (x y : Figures ℤ) → n ≡ m → (n ≡ 0 → x ≡ y) → answer_of n x ≡ answer_of m y
 same_answer n m x y e f = by (eqb n 0) refl
   where
     by : (t : Bool) → eqb n 0 ≡ t → answer_of n x ≡ answer_of m y

@@ -144,7 +144,7 @@ module _ (i : ℕ) where
         → InBook s.book i → InBook other.book i → settlement_code (change (block_at s i)) ≡ settlement_code (block_at s i)
         → limit_of tables i (changed_at i change s) ≡ limit_of tables i (changed_at i change other)
     limit_with change keeps s other a p q e =
-        ap (λ (f : Figures). f.limit)
+        ap (λ (f : Figures ℤ). f.limit)
         (figures_same i (changed_at i change s) (changed_at i change other) (alike_changed i s other a p q change (λ b l. keeps b) e) p.below tables)
 
     move_lawful : (asset amount : ℤ) → Lawful (Alike i) i (moving tables i asset amount)
@@ -169,7 +169,7 @@ module _ (i : ℕ) where
         (past_report (λ b. order_checks tables.clearing o ++ (trade_out b (trade_of o) gives out_of_bounds ∷ [])))
         (λ s e. (stood s e).reported.gate.there) own
         (λ s other a z z'. ap₂ (λ (x y : ℤ). first_code (not (admitted x y) gives negative_limit ∷ []))
-        (ap (λ (f : Figures). f.limit) (figures_same i s other a (stood s z).reported.gate.there.below tables))
+        (ap (λ (f : Figures ℤ). f.limit) (figures_same i s other a (stood s z).reported.gate.there.below tables))
         (limit_with change (λ b. traded_length b (trade_of o)) s other a (stood s z).reported.gate.there (stood other z').reported.gate.there
         (traded_head (block_at s i) (trade_of o) (stood s z).stands.tradable.ranges 13 (inr (omega arith, omega arith)))))
         (λ b l. traded_length b (trade_of o))

@@ -93,7 +93,7 @@ module _ (s : State) (j : ℕ) (asset : ℕ) (amount : ℤ) (there : InBook s.bo
         ∙ ap (λ (x : ℤ). figures_on (on_code s.book i) (nat_abs x) (block_of after.book) tables) (kind_still i l)
 
     abbrev limit_with : limit_of tables i after ≡ (figures_on (on_code s.book i) (kind_at s.book i) (block_of after.book) tables).limit
-    limit_with = ap (λ (f : Figures). f.limit) figures_with
+    limit_with = ap (λ (f : Figures ℤ). f.limit) figures_with
 
     module _ (on : on_code s.book i j ≡ true) where
       pub higher_by : asset ≡ rubles → limit_of tables i after ≡ limit_of tables i s +ℤ amount

@@ -162,7 +162,7 @@ module _ (tables : Tables) (s : State) (j : ℕ) (asset : ℕ) (amount : ℤ) (t
 
     limit_is : limit_of tables i (with_order i o other) ≡ limit_of tables i richer_booked
     limit_is =
-        ap (λ (f : Figures). f.limit)
+        ap (λ (f : Figures ℤ). f.limit)
         (figures_same i (with_order i o other) richer_booked
         (record {
           same_length =

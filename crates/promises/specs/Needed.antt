@@ -110,7 +110,7 @@ abbrev pub ZeroOrMoreNeeded : Type 0
 ZeroOrMoreNeeded = OrderAfterDeposit AnyLimit → ⊥
 
 -- ---- a report of one fixed figure: the right code, and where it is 0 the same five figures whatever the book
-unfoldable pub one_figure : Figures → Report
+unfoldable pub one_figure : Figures ℤ → Report
 one_figure fixed tables i s = record {
   code = (report_of tables i s).code;
   figures = leaves (report_of tables i s).code fixed no_figures;
@@ -121,4 +121,4 @@ abbrev pub Meets : Report → Sum → Type 0
 Meets report s = five (report (tables_in s) 0 (state_in s)).figures ≡ s.result
 
 abbrev pub OneFigureRefused : Type 0
-OneFigureRefused = (fixed : Figures) → Meets (one_figure fixed) S1 → Meets (one_figure fixed) S2 → ⊥
+OneFigureRefused = (fixed : Figures ℤ) → Meets (one_figure fixed) S1 → Meets (one_figure fixed) S2 → ⊥

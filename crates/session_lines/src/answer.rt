@@ -21,20 +21,11 @@ fn put_code(answers: &mut Answers<'_>, answer: Result<(), Refusal>)
 }
 
 // A report's code and figures; zeros where it was turned away.
-fn put_report(answers: &mut Answers<'_>, answer: Result<Figures, Refusal>)
+fn put_report(answers: &mut Answers<'_>, answer: Result<Figures<i64>, Refusal>)
     ensures { Wrote answers.old answers.new (report_line (reported_as answer)) }
 {
     match answer {
-        Ok(found) => {
-            let figures = [
-                found.valuation,
-                found.market,
-                found.interest,
-                found.discount,
-                found.limit,
-            ];
-            answers.put_answer(whole::code(Ok(())), &figures);
-        }
+        Ok(found) => answers.put_answer(whole::code(Ok(())), &found.five()),
         Err(refusal) => answers.put_answer(u8::from(refusal), &[0; 5]),
     }
 }

@@ -109,7 +109,7 @@ pub(crate) fn report(
     book: &[i64],
     parameters: &[i64; PARAMETERS],
     account: u8,
-) -> Result<Figures, Refusal>
+) -> Result<Figures<i64>, Refusal>
     ensures { reported_as result ≡ report_of (tables_of parameters.now) (account_at account) (state book.now) }
 {
     engine::report(book, tables_of(parameters), i64::from(account))

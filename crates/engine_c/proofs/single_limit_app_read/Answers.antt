@@ -2,15 +2,16 @@
 use mathlib.Core.Path.{◌≡◌, refl, ap, ◌∙◌}
 use mathlib.Core.List.{List, [], ◌∷◌}
 use lib.Ieee.{Float, binary64, of_int, of_bits}
+use Rattle.figures.specs.Limit.{five}
 use Rattle.engine.specs.Report.{no_figures}
-use Rattle.app_feed.specs.Floats.{floats_of, five_floats}
+use Rattle.app_feed.specs.Floats.{floats_of}
 use Rattle.app_feed.specs.Received.{Received}
 use Rattle.engine_c.specs.Face.{filled_floats}
 use Rattle.engine_c.proofs.Filling.{turned_away, taken}
 use Rattle.engine_c.proofs.single_limit_app_read.Goals as goal
 
 -- the literal 0.0 is the float of zero
-zeros : let z = of_bits binary64 0 in ◌≡◌ {A = List Float} (z ∷ z ∷ z ∷ z ∷ z ∷ []) (five_floats (floats_of no_figures))
+zeros : let z = of_bits binary64 0 in ◌≡◌ {A = List Float} (z ∷ z ∷ z ∷ z ∷ z ∷ []) (five (floats_of no_figures))
 unfolding floats_of of_int of_bits
 zeros = refl
 
@@ -23,11 +24,11 @@ unfolding filled_floats
 returns-in-Ok c =
     let r = c.in-Ok.ensures in
     taken c.args.figures.now c.if-figures-ne-FIGURES.false (ap (λ (r : Received). r.code) r)
-    (c.copy_from_slice.ensures.after ∙ ap (λ (r : Received). five_floats r.figures) r)
+    (c.copy_from_slice.ensures.after ∙ c.five.ensures ∙ ap (λ (r : Received). five r.figures) r)
 
 pub returns-in-Err : goal.returns-in-Err
 unfolding filled_floats
 returns-in-Err c =
     let r = c.in-Err.ensures in
     taken c.args.figures.now c.if-figures-ne-FIGURES.false (c.from-in-Err.ensures ∙ ap (λ (r : Received). r.code) r)
-    (c.copy_from_slice-in-Err.ensures.after ∙ zeros ∙ ap (λ (r : Received). five_floats r.figures) r)
+    (c.copy_from_slice-in-Err.ensures.after ∙ zeros ∙ ap (λ (r : Received). five r.figures) r)

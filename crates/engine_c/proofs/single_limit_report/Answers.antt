@@ -2,10 +2,7 @@
 use mathlib.Core.Path.{ap, ◌∙◌}
 use lib.IntN.{ℤ}
 use mir.Facts.{to_z-of_z}
-use mir.Syntax.{w64}
-use mir.Val.{SFits}
-use borrow.Author.Rules.{rules}
-use Rattle.rates.specs.Lent.{lent}
+use Rattle.rates.specs.Lent.{Tables, lent}
 use Rattle.figures.specs.Limit.{five}
 use Rattle.engine.specs.State.{state}
 use Rattle.engine.specs.Refused.{place_of}
@@ -25,11 +22,8 @@ returns-in-Ok c =
     let l = c.if-figures-ne-FIGURES.false in
     let r = c.in-Ok.ensures
     ∙ ap (λ (z : ℤ). report_of (lent a.clearing a.own a.groups) (place_of z) (state a.book.now)) (to_z-of_z c.ranges.account) in
-    let g = c.in-Ok.found in
-    let f : SFits w64 g.valuation × SFits w64 g.market × SFits w64 g.interest × SFits w64 g.discount × SFits w64 g.limit = search rules in
     taken a.figures.now l (ap (λ (r : Reported). r.code) r)
-    ((simp (to_z-of_z f.0, to_z-of_z f.1, to_z-of_z f.2, to_z-of_z f.3, to_z-of_z f.4) at c.copy_from_slice.ensures.after)
-    ∙ ap (λ (r : Reported). five r.figures) r)
+    (c.copy_from_slice.ensures.after ∙ c.five.ensures ∙ ap (λ (r : Reported). five r.figures) r)
 
 pub returns-in-Err : goal.returns-in-Err
 unfolding filled_report

@@ -3,6 +3,7 @@ use mathlib.Core.Path.{◌≡◌, sym, ap, ◌∙◌}
 use mathlib.Core.Bool.{not}
 use mathlib.Core.List.{List}
 use Prim.Native.Nat.{ℕ}
+use lib.Ieee.{Float}
 use borrow.Author.Tests.{eq-eqb, ne_eqb}
 use Rattle.std.specs.Prelude.{Err}
 use Rattle.whole.specs.Codes.{refusal_code}
@@ -15,7 +16,7 @@ use Rattle.engine.specs.Report.{no_figures}
 use Rattle.engine.proofs.Exits.{refusal_not_0}
 use Rattle.app_feed.specs.Floats.{floats_of, floats_at}
 use Rattle.app_feed.specs.Received.{Received, read_refusals, received_as, received_of}
-use Rattle.app_feed.specs.declared.floats.Floats.{Floats}
+use Rattle.figures.specs.declared.limit.Figures.{Figures}
 use Rattle.app_feed.proofs.reading.receive.Goals as goal
 
 -- refused, or not
@@ -26,7 +27,7 @@ turned_away bits refusal p =
     ∙ ap (λ (k : ℕ). leaves k (floats_at bits) (floats_of no_figures)) (code p) in
     λ i. record { code = code p i; figures = zeros i }
 
-read : (bits : List ℕ) {x : Floats} → Code (read_refusals bits) 0 → x ≡ floats_at bits → ◌≡◌ {A = Received} (record { code = 0; figures = x }) (received_of bits)
+read : (bits : List ℕ) {x : Figures Float} → Code (read_refusals bits) 0 → x ≡ floats_at bits → ◌≡◌ {A = Received} (record { code = 0; figures = x }) (received_of bits)
 unfolding received_of
 read bits p e = λ i. record { code = code p i; figures = (e ∙ changed _ (floats_at bits) (floats_of no_figures) (sym (code p))) i }
 
