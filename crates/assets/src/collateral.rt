@@ -43,13 +43,11 @@ impl Row<'_> {
     fn share_by_kind(self, kind: usize) -> i64
         ensures { (result ≡ share_by_kind kind self.entry.numbers.now) × (result upto 10000) }
     {
-        if kind == ORDINARY {
-            return self.numbers[in_row::ACCEPTANCE_SHARE];
+        match kind {
+            ORDINARY => self.numbers[in_row::ACCEPTANCE_SHARE],
+            POOL => self.pool_share(),
+            _ => self.numbers[in_row::POOL_SHARE],
         }
-        if kind == POOL {
-            return self.pool_share();
-        }
-        self.numbers[in_row::POOL_SHARE]
     }
 
     // The regime of an asset. Special delivery is decided here; everything else goes by the regime.

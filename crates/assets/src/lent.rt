@@ -1,7 +1,8 @@
 ghost use Rattle.rates.specs.Ranges.{RowRanges};
 ghost use Rattle.book.specs.Ranges.{HoldingRanges};
 
-// What an asset is read from, where it is lent: a row in force and a holding, each with its numbers in range. Neither is copied.
+// What an asset is read from, where it is lent: a row in force and a holding, each with its numbers in range. Neither is copied. The public functions take
+// the numbers alone, as their callers have them, and say in a `requires` that they are in range.
 
 // A row in force, as the table check leaves it.
 #[derive(Clone, Copy)]

@@ -99,7 +99,9 @@ fn worth_of(row: Row<'_>, holding: Holding<'_>, c: i64) -> i64
     requires { c within 2000000 }
     ensures { (result ≡ Σ< 8 (worth_of row.entry.numbers.now holding.entry.numbers.now c)) × (result within 240000000000000) }
 {
-    (0..DATE_COUNT).map(|d| worth_of_date(row, holding, c, d)).sum()
+    (0..DATE_COUNT)
+        .map(|d| worth_of_date(row, holding, c, d))
+        .sum()
 }
 
 // The asset's working record. Claims less obligations are made once, as positions with nothing added, for T and for all that follows.

@@ -34,11 +34,14 @@ fn long_sum(positions: [i64; 8]) -> i64
     requires { PositionRanges positions }
     ensures { (result ≡ long_sum positions) × (result upto 64000000) }
 {
-    positions.iter().map(|position| whole::greater(0, *position)).sum()
+    positions
+        .iter()
+        .map(|position| whole::greater(0, *position))
+        .sum()
 }
 
-// The side that a position is charged on: a rise where it is short. Here and in C' nothing branches on a position: which way it goes nobody can foresee, the
-// processor neither, and a wrong guess costs it more than the sums.
+// The side that a position is charged on, a rise where it is short: a number, by which the side's rate stands behind that of a fall. Here and in C' nothing
+// branches on a position: which way it goes nobody can foresee, the processor neither, and a wrong guess costs it more than the sums.
 fn side_of(position: i64) -> usize
     ensures { (result ≡ side_of position) × (result < 2) }
 {
@@ -112,7 +115,9 @@ impl Row<'_> {
         requires { PositionRanges positions }
         ensures { (result ≡ interest_risk self.entry.numbers.now positions) × (result upto 640000000000000) }
     {
-        let sum: i64 = (0..DATE_COUNT).map(|d| self.interest_of(positions, d)).sum();
+        let sum: i64 = (0..DATE_COUNT)
+            .map(|d| self.interest_of(positions, d))
+            .sum();
         whole::size(sum)
     }
 }

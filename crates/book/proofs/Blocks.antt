@@ -75,6 +75,3 @@ module _ (block : List ℤ) (long : length block ≡ 288) where
 
   pub holding_length_lem : (a : ℕ) → a < 16 → length (holding_of block a) ≡ 17
   holding_length_lem a l = part_length (pos 0) (16 + 17 * a) 17 block (omega arith)
-
-  pub lent_length : (a : ℕ) → a < 16 → length (take (16 + 17 * a + 17 - (16 + 17 * a)) (drop (16 + 17 * a) block)) ≡ 17
-  lent_length a l = ap length (lent_holding block a) ∙ holding_length_lem a l

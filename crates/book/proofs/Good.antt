@@ -27,10 +27,6 @@ use Rattle.book.proofs.InBounds.{zero_rubles, zero_collateral, zero_quantity, ru
 
 -- ---- the two kinds of good blocks
 module _ (block : List ℤ) where
-  pub good_closed : is_zero (account_kind block) ≡ true → good_block block ≡ all_zero block
-  unfolding good_block
-  good_closed e = simp e
-
   pub good_open : is_zero (account_kind block) ≡ false → good_block block ≡ all_true (head_marks block) && in_bounds block
   unfolding good_block
   good_open e = simp e

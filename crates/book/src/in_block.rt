@@ -13,12 +13,12 @@ pub const HOLDING_LENGTH: usize = OBLIGATIONS + units::DATE_COUNT;
 
 pub const LENGTH: usize = HOLDINGS + HOLDING_LENGTH * units::ASSET_COUNT;
 
-// The numbers of a holding, and of a block.
+pub const BOOK_LENGTH: usize = LENGTH * ACCOUNTS;
+
+// A holding, and a block.
 pub type Holding = [i64; HOLDING_LENGTH];
 
 pub type Block = [i64; LENGTH];
-
-pub const BOOK_LENGTH: usize = LENGTH * ACCOUNTS;
 
 // In a block: the account's kind, ruble collateral with the eight ruble nets behind it, up to RUBLES_END, and the settlement code.
 pub const ACCOUNT_KIND: usize = 0;

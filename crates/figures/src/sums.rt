@@ -10,7 +10,8 @@ use rates::units::ASSET_COUNT;
 
 // The sums over the assets of the members.
 
-// Sums over assets: valuation, both risks, and market risk by side and group 0 to 8.
+// Sums over assets: valuation, both risks, and market risk by side and group 0 to 8. The sides are two lists, as the definition `totals_of` and the
+// statements over it have them.
 #[derive(Debug, PartialEq, Eq, Drop)]
 pub struct Totals {
     pub valuation: i64,

@@ -13,7 +13,7 @@ const SHORTEST: usize = 3;
 
 const FIGURE: usize = 16;
 
-// The digit of a value.
+// The digit of a value. `char::from_digit` goes by way of u32, char and an option that is never None.
 #[tactic(auto, unfolding(crate::specs::Hex::digit_of))]
 fn digit(v: u8) -> u8
     requires { v < 16 }
@@ -56,12 +56,13 @@ impl<'a> Answers<'a> {
         &self.out[..self.at]
     }
 
-    fn put(&mut self, b: u8)
-        requires { self.old.at + 1 ≤ length self.old.out.now }
-        ensures { Puts self.old self.new 1 (b ∷ []) }
+    fn put(&mut self, text: &[u8])
+        requires { self.old.at + length text.now ≤ length self.old.out.now }
+        ensures { Puts self.old self.new (length text.now) text.now }
     {
-        self.out[self.at] = b;
-        self.at += 1;
+        let next = self.at + text.len();
+        self.out[self.at..next].copy_from_slice(text);
+        self.at = next;
     }
 
     // Bytes, each as its two digits.
@@ -70,8 +71,7 @@ impl<'a> Answers<'a> {
         ensures { Puts self.old self.new (2 * length bytes.now) (hex_of bytes.now) }
     {
         for b in bytes {
-            self.put(digit(*b / hex::BASE));
-            self.put(digit(*b % hex::BASE));
+            self.put(&[digit(*b / hex::BASE), digit(*b % hex::BASE)]);
         }
     }
 
@@ -98,6 +98,6 @@ impl<'a> Answers<'a> {
         }
         self.put_bytes(&[code]);
         self.put_figures(figures);
-        self.put(NEWLINE);
+        self.put(&[NEWLINE]);
     }
 }

@@ -1,10 +1,10 @@
-ghost use Rattle.std.specs.Prelude.{◌≡◌, length};
-ghost use Rattle.frames.specs.Frame.{order_numbers, frame_of, line_frame};
+ghost use Rattle.std.specs.Prelude.{◌≡◌};
+ghost use Rattle.frames.specs.Frame.{frame_of, line_frame};
 
 use crate::number::{N8, n8};
 use crate::{hex, in_frame};
 
-// A line of a session as a frame.
+// A line of a session as a frame. Its numbers are bytes of any value: the engine's calls turn away what there is not.
 
 #[derive(Clone, Copy, Debug, PartialEq, Eq)]
 pub struct MoveNumbers {
@@ -31,6 +31,8 @@ pub enum Frame {
     Order(OrderNumbers),
     Roll { account: u8 },
     Report { account: u8 },
+
+    // A line of no form: one more frame, as in specs/Frame `line_frame`, and no None.
     Malformed,
 }
 

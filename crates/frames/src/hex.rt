@@ -1,4 +1,4 @@
-ghost use Rattle.std.specs.Prelude.{◌≡◌, false, true, ◌*◌, ◌<◌, ◌≤◌, ◌/◌, length, take, MatchOption};
+ghost use Rattle.std.specs.Prelude.{◌≡◌, false, true, ◌*◌, ◌<◌, ◌≤◌, length, take, MatchOption};
 ghost use Rattle.frames.specs.Hex.{digit_value, is_hex, bytes_of};
 
 // Lower-case hexadecimal to the bytes that it writes.
@@ -6,7 +6,7 @@ ghost use Rattle.frames.specs.Hex.{digit_value, is_hex, bytes_of};
 // How many values a digit has.
 pub(crate) const BASE: u8 = 16;
 
-// The value of a digit.
+// The value of a digit. `char::to_digit` takes upper case too.
 #[tactic(auto, unfolding(crate::specs::Hex::digit_value))]
 fn digit_value(b: u8) -> Option<u8>
     ensures { MatchOption result (digit_value b ≡ 16) (λ v. (v ≡ digit_value b) × (v < 16)) }
@@ -28,6 +28,7 @@ pub(crate) fn unhex(line: &[u8], bytes: &mut [u8]) -> Option<usize>
     if !odd.is_empty() {
         return None;
     }
+    // Of what is written through a zipped `bytes.iter_mut()` the check knows nothing, so `bytes` goes by its index.
     for (k, [high, low]) in pairs.iter().enumerate() {
         let high = digit_value(*high)?;
         let low = digit_value(*low)?;

@@ -4,11 +4,11 @@
 use mathlib.Core.Path.{◌≡◌, refl, ap}
 use mathlib.Core.Bool.{Bool, true, false, not}
 use mathlib.Core.List.{[], ◌∷◌}
-use Prim.Native.Nat.{ℕ, ◌+◌, ◌≤◌, ◌<◌}
+use Prim.Native.Nat.{ℕ, ◌+◌}
 use native.Mathlib.Omega.{arith}
 use borrow.Author.Tests.{not-false}
 use Rattle.std.specs.Prelude.{Ok, Err}
-use Rattle.whole.specs.Marks.{first_false, place_from, check_from}
+use Rattle.whole.specs.Marks.{place_from, check_from}
 use Rattle.whole.specs.Refusals.{◌gives◌, first_code, wrong_length, broken_number, laxer_own_row}
 use Rattle.whole.proofs.Marks.{true_before, false_at, not_all_of, some_false}
 use Rattle.whole.proofs.Checks.{ok_says, err_says}
@@ -18,7 +18,7 @@ use Rattle.rates.specs.Units.{assets, row_length, table_length}
 use Rattle.rates.specs.Lent.{Tables}
 use Rattle.rates.specs.Tables.{table_marks, stricter_at, stricter_marks, lengths_right, sound_tables, only_stricter, table_refusals, check_code, check_place, checked, PlaceIsFirst, LaxerIsFirst}
 use Rattle.rates.specs.Tables.{Checked}
-use Rattle.rates.proofs.Counts.{table_count, stricter_at_count, stricter_count}
+use Rattle.rates.proofs.Counts.{stricter_at_count, stricter_count}
 
 module _ (tables : Tables) where
   answer : {code place : ℕ} → code ≡ check_code tables → place ≡ check_place tables

@@ -3,14 +3,14 @@
 use mathlib.Core.Path.{◌≡◌, refl, sym, ◌∙◌}
 use mathlib.Core.Bool.{Bool, true, false}
 use mathlib.Core.List.{List, map}
-use Prim.Native.Nat.{ℕ, zero, suc, ◌+◌, ◌*◌, ◌≤◌, ◌<◌, ◌^◌}
+use Prim.Native.Nat.{ℕ, zero, suc, ◌+◌, ◌*◌, ◌<◌, ◌^◌}
 use native.Mathlib.Omega.{arith}
 use lib.IntN.{ℤ, pos}
 use lib.ListN.{length, drop}
 use lib.Dec.{eqb}
 use borrow.Author.Tests.{eqb-true}
 use Rattle.std.specs.Prelude.{Result, Ok, Err}
-use Rattle.std.specs.Result.{is_err}
+use Rattle.std.specs.Result.{is_ok}
 use Rattle.whole.specs.Parts.{number}
 use Rattle.whole.specs.Bounds.{between, ◌upto◌, is_zero}
 use Rattle.whole.specs.Marks.{all_true, check_from}
@@ -105,14 +105,14 @@ module _ (row : List ℤ) where
 
 -- ---- any row
 module _ (row : List ℤ) (long : length row ≡ row_length) where
-  pub sound_by : (r : Result (Unit {0}) ℕ) → r ≡ check_from 0 (row_marks row) → is_err r ≡ false → sound_row row ≡ true
+  pub sound_by : (r : Result (Unit {0}) ℕ) → r ≡ check_from 0 (row_marks row) → is_ok r ≡ true → sound_row row ≡ true
   unfolding sound_row
   sound_by (Ok v) e h = rw long (ok_says 0 (row_marks row) e)
-  sound_by (Err k) e h = true_not_false (sym h)
+  sound_by (Err k) e h = true_not_false h
 
-  pub broken_by : (r : Result (Unit {0}) ℕ) → r ≡ check_from 0 (row_marks row) → is_err r ≡ true → sound_row row ≡ false
+  pub broken_by : (r : Result (Unit {0}) ℕ) → r ≡ check_from 0 (row_marks row) → is_ok r ≡ false → sound_row row ≡ false
   unfolding sound_row
-  broken_by (Ok v) e h = true_not_false h
+  broken_by (Ok v) e h = true_not_false (sym h)
   broken_by (Err k) e h = rw long (not_all_of (row_marks row) (err_says 0 (row_marks row) e).inside)
 
 pub row_ranges : (row : List ℤ) → sound_row row ≡ true → RowRanges row

@@ -1,6 +1,6 @@
 ghost use Rattle.std.specs.Prelude.{◌≡◌, ◌&&◌, ◌<◌};
 ghost use Rattle.whole.specs.Bounds.{◌upto◌};
-ghost use Rattle.rates.specs.Row.{highest_rate};
+ghost use Rattle.rates.specs.Row.{fall, highest_rate};
 ghost use Rattle.rates.specs.InForce.{outer_width, sound_row, cover_test};
 ghost use Rattle.rates.specs.Ranges.{RowRanges};
 
@@ -25,12 +25,12 @@ fn outer_width(row: &Row) -> i64
     whole::greater(mid - row[OUTER_LOW], row[OUTER_UP] - mid)
 }
 
-// The highest rate that a unit of a side can be charged.
-fn highest_rate(row: &Row, side: usize) -> i64
-    requires { RowRanges row.now × (side < 2) }
-    ensures { (result ≡ highest_rate row.now side) × (result upto 10000) }
+// The highest rate that a unit can be charged in a fall.
+fn highest_rate(row: &Row) -> i64
+    requires { RowRanges row.now }
+    ensures { (result ≡ highest_rate row.now fall) × (result upto 10000) }
 {
-    row[in_row::RAISED_RATES + side]
+    row[row::RAISED_FALL]
 }
 
 // 10,000 × (price + mid of date 0 − w) ≥ highest rate of a fall × price, of a listed row in its ranges.
@@ -41,7 +41,7 @@ fn passes(row: &Row) -> bool
     if whole::number_is(row, in_row::KIND, 0) {
         return false;
     }
-    let rate = highest_rate(row, in_row::FALL);
+    let rate = highest_rate(row);
     let width = outer_width(row);
     let price = row[in_row::PRICE];
     rate * price <= units::WHOLE * (price + row[MID] - width)
@@ -54,8 +54,5 @@ pub fn covers(row: &[i64]) -> bool
     let Some(row) = row.as_array() else {
         return false;
     };
-    if row::check_row(row).is_err() {
-        return false;
-    }
-    passes(row)
+    row::check_row(row).is_ok() && passes(row)
 }

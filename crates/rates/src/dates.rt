@@ -44,8 +44,10 @@ fn above_mid(row: &Row, mid: usize, j: usize, k: usize) -> bool
     whole::lies_between(row[j], row[k], row[mid] + units::TEN_MILLION)
 }
 
-// Which number of date d breaks a rule.
+// The numbers of date d, one after another. It is kept out of line, so that a right date costs the few tests above and no more.
 #[tactic(auto, unfolding(whole::specs::Marks::check_from, crate::specs::Rules::date_marks))]
+#[cold]
+#[inline(never)]
 fn check_numbers(row: &Row, d: usize) -> Result<(), usize>
     requires { (d < dates) × (price row.now upto 10000000) }
     ensures { result ≡ check_from (dates_at + 5 * d) (date_marks row.now d) }

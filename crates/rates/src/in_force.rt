@@ -35,9 +35,9 @@ pub fn row_of_sound<'a>(clearing: &'a [i64], own: &'a [i64], asset: usize) -> &'
 {
     let at = in_row::LENGTH * asset;
     if whole::number_is(own, at, 0) {
-        return &clearing[at..at + in_row::LENGTH];
+        return tables::row_of(clearing, asset);
     }
-    &own[at..at + in_row::LENGTH]
+    tables::row_of(own, asset)
 }
 
 // Whether an asset is listed: its clearing row is there and has a kind.

@@ -10,8 +10,8 @@ ghost use Rattle.rates.specs.Tables.{absent};
 use crate::in_row::Row;
 use crate::{dates, in_row, units};
 
-// The rules of one row (document 01, "Row"). Each check answers Ok, or the place of the first broken number. Only the dates are added to and taken from;
-// they are looked at where the price is right, so nothing overflows.
+// The rules of one row (document 01, "Row"). Each check answers Ok where the numbers keep them, or the place of the first that breaks one. Only the dates
+// are added to and taken from; they are looked at where the price is right, so nothing overflows.
 
 const COMMODITY: i64 = 3;
 
@@ -36,9 +36,10 @@ pub(crate) fn is_absent(row: &Row) -> bool
     row[in_row::KIND] == 0 && whole::all_zero(row)
 }
 
-// That numbers are zero, of which the first stands at place `at`. In a sound row they are: that is asked first, and the place is looked for only where one
-// is not.
+// Numbers of which the first stands at place `at`, and which are zero. In a sound row they are: that is asked first, and the place is looked for only where
+// one is not. It is inlined, so that the length of each part is written out where it is asked.
 #[tactic(auto, using(whole::proofs::Checks::ok_by), unfolding(whole::specs::Marks::all_zero))]
+#[inline(always)]
 fn check_zeros(at: usize, numbers: &[i64]) -> Result<(), usize>
     requires { at + length numbers.now ≤ row_length }
     ensures { result ≡ check_from at (map is_zero numbers.now) }
@@ -49,7 +50,7 @@ fn check_zeros(at: usize, numbers: &[i64]) -> Result<(), usize>
     whole::check_between(at, numbers, 0, 0)
 }
 
-// That number k passes a test.
+// Ok where a test of number k passed, else its place.
 #[tactic(auto, unfolding(whole::specs::Marks::check_from))]
 pub(crate) fn holds(test: bool, k: usize) -> Result<(), usize>
     ensures { result ≡ check_from k (test ∷ []) }
@@ -57,7 +58,7 @@ pub(crate) fn holds(test: bool, k: usize) -> Result<(), usize>
     if test { Ok(()) } else { Err(k) }
 }
 
-// That number k lies from low to high.
+// Number k, which lies from low to high.
 fn within(row: &Row, k: usize, low: i64, high: i64) -> Result<(), usize>
     requires { k < row_length }
     ensures { result ≡ check_from k (between low (number row.now k) high ∷ []) }

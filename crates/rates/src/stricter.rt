@@ -15,7 +15,7 @@ use crate::{in_row, row, units};
 // The rows' numbers are only compared, so none overflows.
 
 // An own row, beside the clearing row that it stands over.
-#[derive(Clone, Copy)]
+#[derive(Clone, Copy, Debug, PartialEq, Eq)]
 pub(crate) struct OwnRow<'a> {
     pub own: &'a Row,
     pub clearing: &'a Row,

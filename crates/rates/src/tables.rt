@@ -19,7 +19,7 @@ use whole::Refusal;
 // answers Ok, or the place of that number.
 
 // What a call is lent to read: the clearing table, the own table and the groups, of any lengths and any numbers.
-#[derive(Clone, Copy)]
+#[derive(Clone, Copy, Debug, PartialEq, Eq)]
 pub struct Tables<'a> {
     pub clearing: &'a [i64],
     pub own: &'a [i64],

@@ -34,6 +34,7 @@ fn answer_piece(
     requires { longest_answer ≤ length out.old }
     ensures { IfOk result (λ _. WentThrough session.old session.new piece.now) }
 {
+    // No `for`: `feed` says how much of the rest is next.
     let mut rest = piece;
     while !rest.is_empty() {
         let mut answers = Answers::new(out);

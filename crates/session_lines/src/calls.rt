@@ -67,7 +67,7 @@ pub(crate) fn move_collateral(
     )
 }
 
-// 04. No `From`: neither type is this crate's.
+// 04. No `From`: neither type is this crate's (the orphan rule).
 #[tactic(auto, unfolding(crate::specs::Session::terms_of))]
 fn terms_of(line: OrderNumbers) -> Terms
     ensures { result ≡ terms_of line }

@@ -98,9 +98,6 @@ upto_by {x} {k} l e = let a = amid e in record { low = a.from; high = a.to; fits
 pub between_back : {low x high : ℤ} → SFits w64 low → SFits w64 x → SFits w64 high → between (back low) (back x) (back high) ≡ between low x high
 between_back f g h = simp (to_z-of_z f, to_z-of_z g, to_z-of_z h)
 
-pub equal_back : (x : ℤ) {y : ℤ} → SFits w64 y → equal x (back y) ≡ equal x y
-equal_back x f = ap (λ (z : ℤ). equal x z) (to_z-of_z f)
-
 -- two numbers that fit are one exactly where their bits are
 pub same_bits : {x y : ℤ} → SFits w64 x → SFits w64 y → eqb (of_z w64 x) (of_z w64 y) ≡ equal x y
 same_bits {x} {y} f g = by (eqb (of_z w64 x) (of_z w64 y)) (equal x y) refl refl

@@ -1,26 +1,18 @@
--- Laws of lists of marks, over any list and place: the place of the first false one, marks one after another, loops over numbers and over pieces,
--- and what follows where all are true.
+-- Laws of lists of marks, over any list and place: the place of the first false one, marks one after another, and what follows
+-- where all are true.
 -- Assumes nothing.
 use mathlib.Core.Path.{◌≡◌, refl, sym, ap, ◌∙◌, subst}
 use mathlib.Core.Bool.{Bool, true, false}
 use mathlib.Core.List.{List, [], ◌∷◌, ◌++◌, map}
 use mathlib.Core.Logic.{⊎_elim}
-use Prim.Native.Nat.{ℕ, zero, suc, ◌+◌, ◌*◌, ◌-◌, ◌≤◌, ◌<◌}
+use Prim.Native.Nat.{ℕ, zero, suc, ◌+◌, ◌*◌, ◌≤◌, ◌<◌}
 use native.Mathlib.Nat.{eq-or-lt_of_le, mul-suc, mul-zero}
-use native.Mathlib.Numerals.{add-one}
 use native.Mathlib.Omega.{arith}
-use lib.ListN.{length, get_or, drop, drop_of_length-le, length-append, get_or-map}
-use lib.Seq.{drop-cons}
-use Rattle.whole.specs.Marks.{first_false, place_from, all_true, pieces}
+use lib.ListN.{length, get_or, length-append, get_or-map}
+use Rattle.whole.specs.Marks.{first_false, all_true, pieces}
 use Rattle.whole.proofs.Tests.{and_left, and_right, true_not_false}
 
 -- ---- the place: every mark before it is true, and the mark at it is false
-pub first_at_most : (ms : List Bool) → first_false ms ≤ length ms
-unfolding first_false
-first_at_most [] = omega arith
-first_at_most (true ∷ ms) = let h = first_at_most ms in omega arith
-first_at_most (false ∷ ms) = omega arith
-
 pub true_before : (ms : List Bool) (k : ℕ) → k < first_false ms → get_or ms k true ≡ true
 unfolding first_false
 true_before [] k h = refl
@@ -47,20 +39,6 @@ first_past [] b h = omega arith
 first_past (true ∷ a) b h = ap suc (first_past a b (omega arith)) ∙ omega arith
 first_past (false ∷ a) b h = absurd (omega arith)
 
-pub from_zero : (ms : List Bool) → place_from 0 ms ≡ first_false ms
-unfolding place_from
-from_zero ms = omega arith
-
--- ---- as code finds the first false mark of two lists, one after the other: the first stops the search, or is passed with its count
-module _ (k : ℕ) (a b : List Bool) (n r : ℕ) (long : length a ≡ n) (e : r ≡ place_from k a) where
-  pub stops_in : r < k + n → r ≡ place_from k (a ++ b)
-  unfolding place_from
-  stops_in h = omega (arith, first_in a b (omega arith))
-
-  pub goes_past : k + n ≤ r → place_from (k + n) b ≡ place_from k (a ++ b)
-  unfolding place_from
-  goes_past h = omega (arith, first_past a b (omega arith))
-
 pub pieces_length : (f : ℕ → List Bool) (size i n : ℕ) → ((d : ℕ) → d < i + n → length (f d) ≡ size) → length (pieces f i n) ≡ size * n
 unfolding pieces
 pieces_length f size i zero h = sym (mul-zero size)
@@ -68,47 +46,12 @@ pieces_length f size i (suc n) h =
     length-append (f i) (pieces f (suc i) n)
     ∙ omega (arith, h i (omega arith), pieces_length f size (suc i) n (λ d l. h d (omega arith)), mul-suc size n)
 
--- ---- a loop over n pieces of one size, whose first mark stands at place k: d of them were passed
-pub record Passed (marks : ℕ → List Bool) (k size n d : ℕ) : Type 0 where
-  pub inside : d ≤ n
-  pub rest : place_from k (pieces marks 0 n) ≡ place_from (k + size * d) (pieces marks d (n - d))
-
-next : (marks : ℕ → List Bool) (n d : ℕ) → d < n → pieces marks d (n - d) ≡ marks d ++ pieces marks (d + 1) (n - (d + 1))
-unfolding pieces
-next marks n d h = let e : n - d ≡ suc (n - (d + 1)) = omega arith in rw (e, add-one d) refl
-
-module _ {marks : ℕ → List Bool} {k size n : ℕ} where
-  pub none_passed : Passed marks k size n 0
-  unfolding place_from
-  none_passed = let e : n ≡ n - 0 = omega arith in record { inside = omega arith; rest = omega (arith, mul-zero size, ap (λ (i : ℕ). first_false (pieces marks 0 i)) e) }
-
-  module _ {d b : ℕ} (p : Passed marks k size n d) (h : d < n) (long : length (marks d) ≡ size) (e : b ≡ first_false (marks d)) where
-    pub piece_passed : size ≤ b → Passed marks k size n (d + 1)
-    unfolding place_from
-    piece_passed l =
-        let past = ap first_false (next marks n d h) ∙ first_past (marks d) (pieces marks (d + 1) (n - (d + 1))) (omega arith) in
-        record { inside = omega arith; rest = omega (arith, p.rest, past, mul-suc size d, ap (λ (i : ℕ). size * i) (add-one d)) }
-
-    pub found_in : b < size → {r : ℕ} → r ≡ k + size * d + b → r ≡ place_from k (pieces marks 0 n)
-    unfolding place_from
-    found_in l f = omega (arith, p.rest, ap first_false (next marks n d h) ∙ first_in (marks d) (pieces marks (d + 1) (n - (d + 1))) (omega arith))
-
-  pub all_passed : {d r : ℕ} → Passed marks k size n d → n ≤ d → r ≡ k + size * n → r ≡ place_from k (pieces marks 0 n)
-  unfolding place_from pieces first_false
-  all_passed {d} p l f = let e : n - d ≡ 0 = omega arith in let m : d ≡ n = omega (arith, p.inside) in omega (arith, p.rest, ap (λ (i : ℕ). first_false (pieces marks d i)) e, ap (λ (i : ℕ). size * i) m)
-
 -- ---- all true
 pub all_of : (ms : List Bool) → length ms ≤ first_false ms → all_true ms ≡ true
 unfolding first_false all_true
 all_of [] h = refl
 all_of (true ∷ ms) h = all_of ms (omega arith)
 all_of (false ∷ ms) h = absurd (omega arith)
-
-pub none_false : (ms : List Bool) → all_true ms ≡ true → first_false ms ≡ length ms
-unfolding first_false all_true
-none_false [] e = refl
-none_false (true ∷ ms) e = ap suc (none_false ms e)
-none_false (false ∷ ms) e = true_not_false e
 
 pub not_all_of : (ms : List Bool) → first_false ms < length ms → all_true ms ≡ false
 unfolding first_false all_true

@@ -1,5 +1,5 @@
 -- `engine_c::single_limit_app` meets its contract: the feed's answer, with its gauge as a number and a float. Assumes nothing.
-use mathlib.Core.Path.{◌≡◌, refl, sym, ap, ◌∙◌}
+use mathlib.Core.Path.{◌≡◌, ap, ◌∙◌}
 use Prim.Native.Nat.{ℕ}
 use lib.IntN.{ℤ}
 use lib.Ieee.{Float}

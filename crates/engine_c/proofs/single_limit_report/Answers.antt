@@ -1,9 +1,8 @@
 -- `engine_c::single_limit_report` meets its contract: a buffer of five numbers takes the five figures, any other is turned away. Assumes nothing.
-use mathlib.Core.Path.{◌≡◌, ap, ◌∙◌}
-use mathlib.Core.List.{List}
+use mathlib.Core.Path.{ap, ◌∙◌}
 use lib.IntN.{ℤ}
 use mir.Facts.{to_z-of_z}
-use Rattle.rates.specs.Lent.{Tables, lent}
+use Rattle.rates.specs.Lent.{lent}
 use Rattle.figures.specs.Limit.{five}
 use Rattle.engine.specs.State.{state}
 use Rattle.engine.specs.Refused.{place_of}

@@ -1,6 +1,5 @@
 -- `answer_piece` meets its contract: what is left of the piece, taken through what memory holds, ends as the whole piece does. Assumes nothing.
 use mathlib.Core.Path.{◌≡◌, refl, sym, ap, ◌∙◌}
-use native.Mathlib.Omega.{arith}
 use borrow.Author.Tests.{eqb-true}
 use lib.ListN.{length}
 use Rattle.std.proofs.lemmas.List.{take_rest}

@@ -3,10 +3,8 @@ use mathlib.Core.Path.{◌≡◌, refl, sym, ap, ◌∙◌, subst}
 use mathlib.Core.Bool.{Bool, true, not}
 use mathlib.Core.List.{List, [], ◌∷◌}
 use Prim.Native.Nat.{ℕ}
-use native.Mathlib.Omega.{arith}
 use lib.IntN.{ℤ}
 use lib.ListN.{length}
-use borrow.Author.Rules.{rules}
 use Rattle.whole.specs.Refusals.{◌gives◌, first_code, out_of_bounds}
 use Rattle.whole.proofs.Refusals.{Code, none, hit, miss}
 use Rattle.whole.proofs.Tests.{passed, failed, denied, refuted}

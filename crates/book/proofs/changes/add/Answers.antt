@@ -2,7 +2,6 @@
 use mathlib.Core.Path.{ap}
 use lib.IntN.{ℤ}
 use lib.ListN.{set}
-use Rattle.whole.proofs.Rules.{ints}
 use Rattle.book.specs.Changes.{added}
 use Rattle.book.proofs.Amounts.{summed}
 use Rattle.book.proofs.changes.add.Goals as goal

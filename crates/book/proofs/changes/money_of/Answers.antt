@@ -3,7 +3,7 @@ use mathlib.Core.Path.{sym, ◌∙◌, subst}
 use mir.Facts.{to_z-of_z}
 use lib.IntN.{ℤ}
 use Rattle.whole.specs.Bounds.{◌within◌}
-use Rattle.book.proofs.Amounts.{large, negative_fits, negated}
+use Rattle.book.proofs.Amounts.{large, negated}
 use Rattle.book.proofs.Trades.{money_buy, money_sell, money_within}
 use Rattle.book.proofs.changes.money_of.Goals as goal
 

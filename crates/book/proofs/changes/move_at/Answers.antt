@@ -2,7 +2,6 @@
 use mathlib.Core.Logic.{⊎_elim}
 use Prim.Native.Nat.{◌<◌}
 use native.Mathlib.Omega.{arith}
-use borrow.Author.Rules.{rules}
 use borrow.Author.Tests.{eq-eqb, ne_eqb}
 use Rattle.book.specs.Block.{move_at}
 use Rattle.book.proofs.changes.move_at.Goals as goal

@@ -4,7 +4,6 @@ use native.Mathlib.Omega.{arith}
 use lib.IntN.{pos, ◌-ℤ◌}
 use Rattle.whole.proofs.Bounds.{wider}
 use Rattle.whole.proofs.Machine.{back}
-use Rattle.whole.proofs.Rules.{ints}
 use Rattle.book.specs.Changes.{reversed}
 use Rattle.book.specs.Ranges.{TradeRanges}
 use Rattle.book.specs.declared.changes.Trade.{Trade}

@@ -1,7 +1,4 @@
 -- `rolling::roll_holding` meets its contract: the sum is stored before claims and obligations step on. Assumes nothing.
-use mathlib.Core.Path.{◌∙◌}
-use native.Mathlib.Omega.{arith}
-use lib.ListN.{length-set}
 use Rattle.whole.proofs.Rules.{ints}
 use Rattle.book.proofs.Amounts.{sum_fits, summed, differed}
 use Rattle.book.proofs.InBounds.{collateral_size, claim_size, obligation_size}

@@ -1,8 +1,6 @@
 -- `rolling::roll_rubles` meets its contract: the sum is stored before the nets step on. Assumes nothing.
-use mathlib.Core.Path.{◌∙◌}
 use native.Mathlib.Omega.{arith}
-use lib.ListN.{length-set}
-use Rattle.book.proofs.Amounts.{sum_fits, summed}
+use Rattle.book.proofs.Amounts.{summed}
 use Rattle.book.proofs.rolling.DayLater.{rubles_rolled}
 use Rattle.book.proofs.rolling.roll_rubles.Goals as goal
 

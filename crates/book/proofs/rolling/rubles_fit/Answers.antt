@@ -3,7 +3,7 @@ use mathlib.Core.Path.{ap, ◌∙◌}
 use native.Mathlib.Omega.{arith}
 use Rattle.book.specs.Rules.{rubles_right}
 use Rattle.book.specs.Roll.{rolled_rubles}
-use Rattle.book.proofs.Amounts.{sum_fits, summed}
+use Rattle.book.proofs.Amounts.{summed}
 use Rattle.book.proofs.rolling.rubles_fit.Goals as goal
 
 pub returns : goal.returns

@@ -1,7 +1,7 @@
 -- `opening::judge_opening` meets its contract: the block is opened, the code that it makes is looked at, and where that is not right the block is closed
 -- again, which leaves the book as it was. Assumes nothing.
 use mathlib.Core.Path.{◌≡◌, refl, sym, ap, ◌∙◌}
-use mathlib.Core.Bool.{Bool, not}
+use mathlib.Core.Bool.{Bool}
 use mathlib.Core.List.{List}
 use Prim.Native.Nat.{ℕ}
 use native.Mathlib.Omega.{arith}

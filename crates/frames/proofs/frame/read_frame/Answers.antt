@@ -8,9 +8,8 @@ use mir.Facts.{to_z-of_z}
 use Rattle.frames.specs.Number.{byte}
 use Rattle.frames.specs.Frame.{move_numbers, order_numbers}
 use Rattle.frames.proofs.Bytes.{two_read, n8_first, n8_of_two, n8_after}
-use Rattle.frames.proofs.Shapes.{no_form, reads_parameter, reads_open, reads_move, reads_order, reads_roll, reads_report}
+use Rattle.frames.proofs.Shapes.{reads_parameter, reads_move, reads_order}
 use Rattle.frames.proofs.frame.read_frame.Goals as goal
-use Rattle.frames.proofs.frame.read_frame.Goals.{then-bytes-lt4+in-1-1, else-bytes-lt4+then-bytes-lt5+in-1-1, else-bytes-lt4+else-bytes-lt5+in-1-1, then-bytes-lt4+in-3-1, else-bytes-lt4+then-bytes-lt5+in-3-1, else-bytes-lt4+else-bytes-lt5+in-3-1}
 
 pub returns-in-4 : goal.returns-in-4
 unfolding order_numbers

@@ -1,7 +1,6 @@
 -- `rates::in_force::row_in_force` meets its contract: the lengths and the asset are looked at first, then whether the own row is absent.
 -- Assumes nothing.
 use mathlib.Core.Path.{◌≡◌, refl, sym, ap, ◌∙◌}
-use Prim.Native.Nat.{◌*◌}
 use native.Mathlib.Omega.{arith}
 use borrow.Author.Tests.{ne_eqb, le-ltb}
 use Rattle.whole.proofs.Tests.{tests, left, taken}

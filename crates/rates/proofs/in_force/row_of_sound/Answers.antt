@@ -2,7 +2,6 @@
 -- Assumes nothing.
 use mathlib.Core.Path.{◌≡◌, sym, ap, ◌∙◌}
 use Rattle.whole.specs.Bounds.{is_zero}
-use Rattle.whole.proofs.Parts.{cut}
 use Rattle.rates.specs.Tables.{row_of, absent}
 use Rattle.rates.proofs.Lookup.{from_own, from_clearing}
 use Rattle.rates.proofs.in_force.Listed.{kind_at}
@@ -14,7 +13,7 @@ asked : (c : After-number_is) → absent (row_of c.args.own.now c.args.asset) �
 asked c = c.requires.3 ∙ ap is_zero (kind_at _ _) ∙ sym c.number_is.ensures
 
 pub returns-then-number_is : goal.returns-then-number_is
-returns-then-number_is c = cut _ 64 _ ∙ sym (from_clearing _ _ _ (asked c.before.before ∙ c.if-number_is.true))
+returns-then-number_is c = c.row_of.ensures ∙ sym (from_clearing _ _ _ (asked c.before.before.before ∙ c.if-number_is.true))
 
 pub returns : goal.returns
-returns c = cut _ 64 _ ∙ sym (from_own _ _ _ (asked c.before.before ∙ c.if-number_is.false))
+returns c = c.row_of-2.ensures ∙ sym (from_own _ _ _ (asked c.before.before.before ∙ c.if-number_is.false))

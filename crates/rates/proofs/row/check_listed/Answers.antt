@@ -1,10 +1,8 @@
 -- `rates::row::check_listed` meets its contract: the parts before the one with the first broken number are passed, each with its count.
 -- Assumes nothing.
-use mathlib.Core.Path.{◌≡◌, sym, ap, ◌∙◌}
+use mathlib.Core.Path.{◌≡◌, ap, ◌∙◌}
 use mathlib.Core.List.{List, map}
-use native.Mathlib.Omega.{arith}
 use lib.IntN.{ℤ}
-use borrow.Author.Rules.{rules}
 use Rattle.std.specs.Prelude.{Ok}
 use Rattle.whole.specs.Bounds.{◌upto◌, is_zero}
 use Rattle.whole.specs.Marks.{check_from}

@@ -1,9 +1,7 @@
 -- `rates::tables::check_clearing` meets its contract: each row answers as its marks do. Assumes nothing.
-use mathlib.Core.Path.{ap, ◌∙◌}
-use Prim.Native.Nat.{ℕ, ◌*◌}
+use Prim.Native.Nat.{◌*◌}
 use native.Mathlib.Nat.{zero-add}
 use borrow.Author.Rules.{rules}
-use Rattle.whole.specs.Marks.{check_from}
 use Rattle.rates.specs.Units.{row_length}
 use Rattle.rates.specs.Tables.{clearing_marks}
 use Rattle.rates.proofs.Counts.{clearing_row_count}

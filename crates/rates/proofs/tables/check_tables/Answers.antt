@@ -1,11 +1,8 @@
 -- `rates::tables::check_tables` meets its contract: a wrong length is refused first; then the numbers answer, and then the own rows.
 -- Assumes nothing.
 use mathlib.Core.Path.{◌≡◌, sym, ap, ◌∙◌}
-use mathlib.Core.Bool.{Bool, true, false}
-use mathlib.Core.List.{List}
+use mathlib.Core.Bool.{true, false}
 use Prim.Native.Nat.{ℕ}
-use lib.IntN.{ℤ}
-use borrow.Author.Rules.{rules}
 use borrow.Author.Tests.{eq-eqb, ne_eqb}
 use Rattle.std.specs.Prelude.{Option, None, Result, Ok, Err}
 use Rattle.std.specs.Option.{ok_or}
@@ -20,7 +17,7 @@ use Rattle.rates.specs.declared.tables.Fault.TheVariants.{WrongLength, BrokenNum
 use Rattle.rates.specs.Units.{table_length}
 use Rattle.rates.specs.Lent.{Tables, lent, numbers_of}
 use Rattle.rates.specs.Faults.{checked_as}
-use Rattle.rates.specs.Tables.{table_marks, stricter_marks, lengths_right, sound_tables, sound_own, Checked, checked}
+use Rattle.rates.specs.Tables.{table_marks, stricter_marks, lengths_right, sound_tables, sound_own, checked}
 use Rattle.rates.proofs.Answer.{answers_1, answers_2, answers_13, answers_0, sound}
 use Rattle.rates.proofs.Sound.{own_table_right}
 use Rattle.rates.proofs.tables.check_tables.Goals as goal

@@ -1,10 +1,9 @@
 -- `rates::tables::stricter_at` meets its contract: the rows are those of the asset. Assumes nothing.
-use mathlib.Core.Path.{ap, ap₂, ◌∙◌}
+use mathlib.Core.Path.{ap₂, ◌∙◌}
 use mathlib.Core.List.{List}
 use native.Mathlib.Omega.{arith}
 use Prim.Native.Nat.{◌+◌, ◌*◌}
 use lib.IntN.{ℤ}
-use lib.ListN.{length}
 use Rattle.whole.specs.Marks.{check_from, all_true}
 use Rattle.whole.proofs.Checks.{err_inside}
 use Rattle.whole.proofs.Marks.{all_piece}

@@ -1,24 +1,23 @@
--- `Row::share_by_kind` meets its contract: the tests are the definition's, in its order. Assumes nothing.
-use mathlib.Core.Path.{refl}
+-- `Row::share_by_kind` meets its contract: the arms are the definition's tests, in its order. Assumes nothing.
+use mathlib.Core.Path.{◌≡◌, refl}
+use native.Mathlib.Omega.{arith}
 use mir.Facts.{to_z-of_z}
-use borrow.Author.Tests.{eq-eqb, ne_eqb}
+use borrow.Author.Tests.{ne_eqb}
 use Rattle.assets.specs.Collateral.{share_by_kind}
 use Rattle.assets.proofs.lent.Row.share_by_kind.Goals as goal
 
-pub returns-then-kind-eq-ORDINARY : goal.returns-then-kind-eq-ORDINARY
+pub returns-in-1 : goal.returns-in-1
 unfolding share_by_kind
-returns-then-kind-eq-ORDINARY c =
-    let h = c.args.self.in_range.acceptance_upto in
-    rw (to_z-of_z h.fits, eq-eqb _ 1 c.if-kind-eq-ORDINARY.true) (refl, h)
+returns-in-1 c = let h = c.args.self.in_range.acceptance_upto in rw (to_z-of_z h.fits, c.in-1.is) (refl, h)
 
-pub returns-then-kind-eq-POOL : goal.returns-then-kind-eq-POOL
+pub returns-in-2 : goal.returns-in-2
 unfolding share_by_kind
-returns-then-kind-eq-POOL c =
-    let h = c.pool_share.ensures in
-    rw (to_z-of_z h.1.fits, ne_eqb _ 1 c.if-kind-eq-ORDINARY.false, eq-eqb _ 2 c.if-kind-eq-POOL.true) h
+returns-in-2 c = let h = c.pool_share.ensures in rw (to_z-of_z h.1.fits, c.in-2.is) h
 
-pub returns : goal.returns
+pub returns-in_default : goal.returns-in_default
 unfolding share_by_kind
-returns c =
+returns-in_default c =
     let h = c.args.self.in_range.pool_upto in
-    rw (to_z-of_z h.fits, ne_eqb _ 1 c.if-kind-eq-ORDINARY.false, ne_eqb _ 2 c.if-kind-eq-POOL.false) (refl, h)
+    let ordinary : c.args.kind ≡ 1 → ⊥ = λ e. omega arith in
+    let pool : c.args.kind ≡ 2 → ⊥ = λ e. omega arith in
+    rw (to_z-of_z h.fits, ne_eqb _ 1 ordinary, ne_eqb _ 2 pool) (refl, h)

@@ -15,6 +15,5 @@ loop-b-init c = puts_none _ (omega arith)
 pub loop-b-preserved : goal.loop-b-preserved
 loop-b-preserved c =
     let j = c.loop-b in
-    let digits = puts_then (omega arith) c.put.ensures c.put-in-loop-b.ensures in
     puts_same (bytes_next _ j.b-index c.loop-b-test.true)
-    (puts_size (omega arith) (puts_then (omega arith) j.invariant (puts_same (ap₂ (λ (high low : ℕ). high ∷ low ∷ []) c.digit.ensures c.digit-in-loop-b.ensures) digits)))
+    (puts_size (omega arith) (puts_then (omega arith) j.invariant (puts_same (ap₂ (λ (high low : ℕ). high ∷ low ∷ []) c.digit.ensures c.digit-in-loop-b.ensures) c.put.ensures)))

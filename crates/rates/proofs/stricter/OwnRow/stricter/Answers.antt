@@ -1,13 +1,13 @@
 -- `rates::stricter::OwnRow::stricter` meets its contract: the parts before the one with the first laxer number are passed, each with its count; numbers 56
 -- to 63 are asked for nothing. Assumes nothing.
-use mathlib.Core.Path.{◌≡◌, refl, sym, ◌∙◌}
+use mathlib.Core.Path.{refl, ◌∙◌}
 use mathlib.Core.Bool.{true}
 use lib.ListN.{replicate}
 use Rattle.whole.specs.Marks.{all_true}
 use Rattle.whole.proofs.Checks.{stops_at, last_unasked, handed_on}
-use Rattle.rates.specs.Row.{rates_at, limits_at, dates_at}
+use Rattle.rates.specs.Row.{rates_at, limits_at}
 use Rattle.rates.specs.Stricter.{stricter_row}
-use Rattle.rates.proofs.Counts.{stricter_terms_count, stricter_rates_count, stricter_limits_count, stricter_dates_count}
+use Rattle.rates.proofs.Counts.{stricter_terms_count, stricter_rates_count, stricter_limits_count}
 use Rattle.rates.proofs.RowParts.{past_terms, past_rates, past_limits}
 use Rattle.rates.proofs.stricter.OwnRow.stricter.Goals as goal
 
