@@ -30,7 +30,7 @@ fn all_patterns(bits: &[u64]) -> bool
     bits.iter().all(|bits| is_pattern(*bits))
 }
 
-// The floats of five patterns.
+// The floats of five patterns. Only here do numbers in a report's order become figures by name, so a loop or a helper would say no less.
 fn floats_at(bits: &[u64]) -> Floats
     requires { (length bits.now ≡ 5) × (all_true (map is_pattern bits.now) ≡ true) }
     ensures { result ≡ floats_at bits.now }

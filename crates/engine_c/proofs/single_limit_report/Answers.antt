@@ -2,7 +2,7 @@
 use mathlib.Core.Path.{ap, ◌∙◌}
 use lib.IntN.{ℤ}
 use mir.Facts.{to_z-of_z}
-use Rattle.rates.specs.Lent.{Tables, lent}
+use Rattle.rates.specs.Lent.{lent}
 use Rattle.figures.specs.Limit.{five}
 use Rattle.engine.specs.State.{state}
 use Rattle.engine.specs.Refused.{place_of}
