@@ -18,9 +18,11 @@ use whole::Refusal;
 // What the calls begin with: codes 1, 2, 13, 3, then 6 of the account's settlement code and 4 of its block; and the figures of its code.
 // A gate that lets a call through gives the account's place in the book.
 
+// Book, tables and account are three parameters throughout: half of the calls lend the book to be changed, so that no one struct could lend it to both.
+
 const LAST_ACCOUNT: i64 = 15;
 
-// Code 3, or an account's place in the book.
+// Code 3, or an account's place in the book. The cast loses nothing, as the test before it says.
 fn place(account: i64) -> Result<usize, Refusal>
     ensures code { answer_code result ≡ first_code (account_refusals (place_of account)) }
     ensures place { IfOk result (λ i. i ≡ place_of account) }

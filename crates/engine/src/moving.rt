@@ -13,6 +13,8 @@ use whole::Refusal;
 
 // The move of collateral: a deposit is never asked for the limit; a withdrawal is taken back where the limit without it is negative.
 
+// The casts of an asset here and in `ordering` lose nothing: `asset_right`, `choice_right` or `is_rubles` is asked before each.
+
 // Whether an asset can be moved: rubles, or one of the sixteen that is listed.
 fn can_be_moved(clearing: &[i64], asset: i64) -> bool
     ensures { result ≡ move_choice_right clearing.now asset }

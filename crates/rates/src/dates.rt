@@ -47,7 +47,7 @@ fn above_mid(row: &Row, mid: usize, j: usize, k: usize) -> bool
     whole::lies_between(row[j], row[k], row[mid] + units::TEN_MILLION)
 }
 
-// The numbers of date d, one after another. It is kept out of line, so that a right date costs the few tests above and no more.
+// The numbers of date d, one after another. It is kept out of line, so that a right date costs the few tests of `date_right` and no more.
 #[tactic(auto, unfolding(whole::specs::Marks::check_from, crate::specs::Rules::date_marks))]
 #[cold]
 #[inline(never)]

@@ -51,8 +51,7 @@ fn read_all(
     session: &mut Session,
     buf: &mut [u8],
     out: &mut [u8; BUFFER],
-) -> Result<(), Failed>
-{
+) -> Result<(), Failed> {
     for _ in 0..u64::MAX {
         let count = waiting::read_some(streams.input, streams.errors, buf)?;
         if count == 0 {
@@ -70,8 +69,7 @@ fn serve(
     session: &mut Session,
     buf: &mut [u8],
     out: &mut [u8; BUFFER],
-) -> Result<(), Failed>
-{
+) -> Result<(), Failed> {
     read_all(streams, session, buf, out)?;
     let mut answers = Answers::new(out);
     session.end(&mut answers);
