@@ -20,18 +20,15 @@ use whole::Refusal;
 
 // Book, tables and account are three parameters throughout: half of the calls lend the book to be changed, so that no one struct could lend it to both.
 
-const LAST_ACCOUNT: i64 = 15;
-
-// Code 3, or an account's place in the book. The cast loses nothing, as the test before it says.
+// Code 3, or an account's place in the book.
 fn place(account: i64) -> Result<usize, Refusal>
     ensures code { answer_code result ≡ first_code (account_refusals (place_of account)) }
     ensures place { IfOk result (λ i. i ≡ place_of account) }
 {
-    if !whole::lies_between(0, account, LAST_ACCOUNT) {
-        return Err(Refusal::NoAccount);
+    match usize::try_from(account) {
+        Ok(i) if i < in_block::ACCOUNTS => Ok(i),
+        _ => Err(Refusal::NoAccount),
     }
-    // The test says that the cast loses nothing; `try_from` would ask it again.
-    Ok(account as usize)
 }
 
 // Codes 1 and 3 of a call that is lent the book alone.

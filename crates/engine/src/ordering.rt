@@ -18,11 +18,7 @@ use whole::Refusal;
 fn order_checks(clearing: &[i64], o: Terms) -> Result<(), Refusal>
     ensures { answer_code result ≡ first_code (order_checks clearing.now o) }
 {
-    if !book::choice_right(o) {
-        return Err(Refusal::WrongChoice);
-    }
-    // The asset is an index only past the test above, so two tests answer 7; one condition of both reads no shorter.
-    if !rates::is_listed(clearing, o.asset as usize) {
+    if !(book::choice_right(o) && rates::is_listed(clearing, o.asset as usize)) {
         return Err(Refusal::WrongChoice);
     }
     if !book::amounts_right(o) {

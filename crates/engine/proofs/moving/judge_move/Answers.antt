@@ -16,10 +16,9 @@ use Rattle.whole.proofs.Refusals.{none, hit, miss, code}
 use Rattle.whole.proofs.Tests.{both, first_out, second_out}
 use Rattle.rates.specs.Lent.{numbers_of}
 use Rattle.book.specs.Changes.{moved}
-use Rattle.book.specs.Ranges.{Movable}
 use Rattle.book.specs.AtAccount.{at_account}
-use Rattle.book.proofs.Amounts.{negative_fits, negated}
-use Rattle.engine.specs.State.{State, state, with_book, block_at, changed_at}
+use Rattle.book.proofs.Amounts.{negated}
+use Rattle.engine.specs.State.{State, state, with_book, changed_at}
 use Rattle.engine.specs.Refused.{limit_of, enough, move_judged}
 use Rattle.engine.specs.Ranges.{Judgeable}
 use Rattle.engine.specs.Calls.{changing, judged_move}
@@ -38,10 +37,6 @@ made_is book i asset f e = e ∙ ap (λ (z : ℤ). at_account book i (λ b. move
 
 withdrawn : {amount : ℤ} {t : Bool} → SFits w64 amount → le_z (pos 0) (back amount) ≡ t → lt_z amount (pos 0) ≡ not t
 withdrawn {amount} f e = negative amount ∙ ap (λ (z : ℤ). not (le_z (pos 0) z)) (sym (to_z-of_z f)) ∙ ap not e
-
-pub move_in-requires : goal.move_in-requires
-move_in-requires c = let p = c.requires in
-    (p.judgeable.there, subst (Movable (block_at (state c.args.book.now) c.args.i) c.args.asset) (sym (to_z-of_z c.ranges.amount)) p.movable)
 
 -- a deposit
 pub returns-then-amount-ge0 : goal.returns-then-amount-ge0
@@ -68,9 +63,6 @@ unfolding judged_move
 returns-then-is_enough c = let a = c.args in let e = admits (goal.at.returns-then-is_enough c).After-is_enough in
     made (move_judged (numbers_of a.tables) a.i a.asset a.amount) a.i (λ b. moved b a.asset a.amount) (state a.book.now) tt
     (sym (code (miss (second_out (lt_z a.amount (pos 0)) _ (ap not (sym e ∙ c.if-is_enough.true))) none))) (made_is _ _ _ c.ranges.amount c.move_in.ensures)
-
-pub overflow_sub-amount : goal.overflow_sub-amount
-overflow_sub-amount c = negative_fits c.requires.movable.amount_within
 
 pub move_in-requires-2 : goal.move_in-requires-2
 move_in-requires-2 c = rw (made_is _ _ _ c.ranges.amount c.move_in.ensures, negated c.requires.movable.amount_within) (returnable _ _ _ _ _ c.requires)

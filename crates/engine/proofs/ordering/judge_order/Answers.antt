@@ -24,9 +24,6 @@ use Rattle.engine.proofs.ordering.judge_order.Goals.{After-is_enough, After-trad
 abbrev booked : List ℤ → ℕ → Trade → State
 booked book i t = changed_at i (λ b. traded b t) (state book)
 
-pub trade_in-requires : goal.trade_in-requires
-trade_in-requires c = let p = c.requires in (p.judgeable.there, p.tradable)
-
 pub limit_at-after-requires : goal.limit_at-after-requires
 limit_at-after-requires c = let a = c.args in
     subst (λ (b : List ℤ). Judgeable (numbers_of a.tables) a.i (with_book (state a.book.now) b)) (sym c.trade_in.ensures) (judgeable_booked _ _ _ _ c.requires)
@@ -46,9 +43,6 @@ unfolding judged_trade
 returns-then-is_enough c = let a = c.args in let t = numbers_of a.tables in let e = admits (goal.at.returns-then-is_enough c).After-is_enough in
     made (order_judged t a.i a.t) a.i (λ b. traded b a.t) (state a.book.now) tt
     (first_ground t a.i a.t (state a.book.now) (sym e ∙ c.if-is_enough.true)) c.trade_in.ensures
-
-pub reversed-back-requires : goal.reversed-back-requires
-reversed-back-requires c = c.requires.tradable.ranges
 
 pub trade_in-requires-2 : goal.trade_in-requires-2
 trade_in-requires-2 c = rw (c.trade_in.ensures, c.reversed-back.ensures.0) (reversible _ _ _ _ c.requires)
