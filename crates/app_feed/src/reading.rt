@@ -1,4 +1,4 @@
-ghost use Rattle.std.specs.Prelude.{◌≡◌, map, true, length};
+ghost use Rattle.std.specs.Prelude.{◌≡◌, map, true};
 ghost use Rattle.whole.specs.Marks.{all_true};
 ghost use Rattle.app_feed.specs.Floats.{floats_at};
 ghost use Rattle.app_feed.specs.Received.{is_pattern, received_as, received_of};
@@ -31,8 +31,8 @@ fn all_patterns(bits: &[u64]) -> bool
 }
 
 // The floats of five patterns. Only here do numbers in a report's order become figures by name, so a loop or a helper would say no less.
-fn floats_at(bits: &[u64]) -> Floats
-    requires { (length bits.now ≡ 5) × (all_true (map is_pattern bits.now) ≡ true) }
+fn floats_at(bits: &[u64; floats::COUNT]) -> Floats
+    requires { all_true (map is_pattern bits.now) ≡ true }
     ensures { result ≡ floats_at bits.now }
 {
     Figures {
@@ -48,12 +48,9 @@ fn floats_at(bits: &[u64]) -> Floats
 pub fn receive(bits: &[u64]) -> Result<Floats, Refusal>
     ensures { received_as result ≡ received_of bits.now }
 {
-    if bits.len() != floats::COUNT {
-        return Err(Refusal::WrongLength);
-    }
+    let bits: &[u64; floats::COUNT] = bits.as_array().ok_or(Refusal::WrongLength)?;
     if !all_patterns(bits) {
         return Err(Refusal::OutOfBounds);
     }
-    let found = floats_at(bits);
-    Ok(found)
+    Ok(floats_at(bits))
 }

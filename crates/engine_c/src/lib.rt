@@ -193,6 +193,7 @@ pub extern "C" fn single_limit_app<'a>(
 
 // Five numbers read back: the code; the five floats go to `figures`, five of them, zeros when refused. Another length of it is code 1, and nothing is
 // written.
+// The steps are the report's, of another record: one function for both would be handed the answer, and so made before the length is looked at.
 #[unsafe(no_mangle)]
 pub extern "C" fn single_limit_app_read(bits: &[u64], figures: &mut [f64]) -> u8
     ensures { filled result figures ≡ filled_floats bits.now figures.old }

@@ -1,7 +1,7 @@
 -- A report of one fixed figure satisfies the asset part of demand 3; that S1 and S2 refuse it is in specs/Needed. So demand 3 does not stand alone.
 -- Assumes nothing.
-use lib.Signed.{≤ℤ_refl}
 use lib.IntN.{ℤ}
+use lib.Signed.{≤ℤ_refl}
 use Rattle.whole.specs.Refusals.{leaves}
 use Rattle.figures.specs.declared.limit.Figures.{Figures}
 use Rattle.figures.specs.Laws.{Covered}

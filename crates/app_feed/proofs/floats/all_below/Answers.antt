@@ -1,9 +1,8 @@
 -- `floats::all_below` meets its contract: each figure is asked, and the marks are all true where it passes. Assumes nothing.
-use mathlib.Core.Path.{◌≡◌, ap, ◌∙◌}
-use mathlib.Core.Bool.{Bool}
-use borrow.Author.Tests.{tests}
-use lib.IntN.{ℤ}
+use mathlib.Core.Path.{ap, ◌∙◌}
 use mathlib.Core.List.{List, map}
+use lib.IntN.{ℤ}
+use borrow.Author.Tests.{tests}
 use Rattle.std.proofs.Common.{rules}
 use Rattle.std.proofs.lemmas.Iterator.{YieldsList-from_slice}
 use Rattle.std.proofs.lemmas.Iterator.Search.{all_from_yields_List}

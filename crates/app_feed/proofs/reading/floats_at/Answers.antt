@@ -19,16 +19,16 @@ unfolding floats_at
 returns c = refl
 
 pub float_from_bits-result : goal.float_from_bits-result
-float_from_bits-result c = each c.args.bits.now c.requires.1 0
+float_from_bits-result c = each c.args.bits.now c.requires 0
 
 pub float_from_bits-result-2 : goal.float_from_bits-result-2
-float_from_bits-result-2 c = each c.args.bits.now c.requires.1 1
+float_from_bits-result-2 c = each c.args.bits.now c.requires 1
 
 pub float_from_bits-result-3 : goal.float_from_bits-result-3
-float_from_bits-result-3 c = each c.args.bits.now c.requires.1 2
+float_from_bits-result-3 c = each c.args.bits.now c.requires 2
 
 pub float_from_bits-result-4 : goal.float_from_bits-result-4
-float_from_bits-result-4 c = each c.args.bits.now c.requires.1 3
+float_from_bits-result-4 c = each c.args.bits.now c.requires 3
 
 pub float_from_bits-result-5 : goal.float_from_bits-result-5
-float_from_bits-result-5 c = each c.args.bits.now c.requires.1 4
+float_from_bits-result-5 c = each c.args.bits.now c.requires 4
