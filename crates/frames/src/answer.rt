@@ -14,7 +14,6 @@ const SHORTEST: usize = 3;
 const FIGURE: usize = 16;
 
 // The digit of a value. `char::from_digit` goes by way of u32, char and an option that is never None.
-// By hand: `char::from_digit` goes through char and u32.
 #[tactic(auto, unfolding(crate::specs::Hex::digit_of))]
 fn digit(v: u8) -> u8
     requires { v < 16 }
@@ -26,8 +25,7 @@ fn digit(v: u8) -> u8
     }
 }
 
-// A buffer, and the place past what is written in it.
-// A buffer and the place past what is written in it: no heap holds a growing list, and `written_in` of the definitions names both.
+// A buffer, and the place past what is written in it: no heap holds a growing list, and `written_in` of the definitions names both.
 #[derive(Drop)]
 pub struct Answers<'a> {
     pub out: &'a mut [u8],

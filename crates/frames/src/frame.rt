@@ -23,7 +23,7 @@ pub struct OrderNumbers {
     pub money: i64,
 }
 
-// A line of no form is a frame too, `Malformed`, as `frame_of` of the definitions has it; every byte is let through, and the engine answers 3 or 7.
+// Every byte is let through, and the engine answers 3 or 7 for what there is not.
 #[derive(Clone, Copy, Debug, PartialEq, Eq)]
 pub enum Frame {
     Parameter { place: usize, number: i64 },

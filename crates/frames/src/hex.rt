@@ -30,7 +30,6 @@ pub(crate) fn unhex(line: &[u8], bytes: &mut [u8]) -> Option<usize>
         return None;
     }
     // Of what is written through a zipped `bytes.iter_mut()` the check knows nothing, so `bytes` goes by its index.
-    // By place: behind an adapter of `iter_mut`, as `zip` is, a proof knows nothing of what was written.
     for (k, [high, low]) in pairs.iter().enumerate() {
         let high = digit_value(*high)?;
         let low = digit_value(*low)?;
