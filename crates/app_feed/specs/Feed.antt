@@ -16,7 +16,6 @@ use Rattle.app_feed.specs.Gauge.{gauge_of}
 use Rattle.app_feed.specs.declared.feeding.Fed.{Fed as Feeding}
 use Rattle.figures.specs.declared.limit.Figures.{Figures}
 use Rattle.app_feed.specs.declared.gauge.Gauge.{Gauge}
-use Rattle.app_feed.specs.declared.gauge.Gauge.TheVariants.{Empty}
 
 -- another count than five is a wrong length, before all else; then the report's codes; then 9 where a figure is 2^53 or more in size (#104)
 abbrev pub feed_refusals : Tables → ℕ → State → ℕ → List Refusal
@@ -37,7 +36,7 @@ fed_of reported = record { code = reported.code; figures = floats_of reported.fi
 -- as code answers it: figures and gauge, or what turned the feed away
 abbrev pub fed_as : Result Feeding refused.Refusal → Fed
 fed_as (Ok fed) = record { code = 0; figures = fed.figures; gauge = fed.gauge }
-fed_as (Err refusal) = record { code = refusal_code refusal; figures = floats_of no_figures; gauge = Empty }
+fed_as (Err refusal) = fed_of (record { code = refusal_code refusal; figures = no_figures })
 
 -- ---- what the call answers and leaves in the five numbers
 pub record Sent : Type 0 where

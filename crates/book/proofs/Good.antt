@@ -119,6 +119,16 @@ module _ (block clearing : List ℤ) where
       go true = follows (all_zero block) (holds_listed block clearing) (λ z. empty_listed block z clearing)
       go false = asked_apart
 
+  -- of a block that is not open, and of an open one: its head, its rubles, then its holdings
+  pub stands_closed : is_zero (account_kind block) ≡ true → all_zero block ≡ good_block block && holds_listed block clearing
+  stands_closed e = stands_by_zeros block (λ a. holding_right_at block a && listed_if_held block clearing a) e ∙ stands_by_both
+
+  pub stands_open : is_zero (account_kind block) ≡ false
+      → good_block block && holds_listed block clearing
+      ≡ all_true (head_marks block) && (all_true (map rubles_right (ruble_numbers block)) && (every 16 (holding_right_at block) && holds_listed block clearing))
+  unfolding in_bounds
+  stands_open e = rw (good_open block e) (simp and_assoc refl)
+
 -- ---- every good block
 module _ (block : List ℤ) (long : length block ≡ 288) (good : good_block block ≡ true) where
   pub good_in_bounds : in_bounds block ≡ true

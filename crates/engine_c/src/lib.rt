@@ -12,15 +12,13 @@ use app_feed::Gauge;
 use book::Terms;
 use rates::Tables;
 use whole::Refusal;
+use whole::codes::DONE;
 
 // The engine's calls for other languages: each passes its numbers and slices on. A slice is a pointer and a length; a number is itself.
 // include/single_limit.h declares them, so each answers a code, a number, and takes the tables one by one.
 
 // Numbers of a report.
 const FIGURES: usize = 5;
-
-// The code of a call that nothing turned away.
-const DONE: u8 = 0;
 
 // Check tables: the code; the place of the first broken number, with code 2, or of the first laxer one, with 13, goes to `place`, else 0.
 #[unsafe(no_mangle)]
@@ -141,9 +139,9 @@ pub extern "C" fn single_limit_report<'a>(
 ) -> u8
     ensures { filled result figures ≡ filled_report (given clearing own groups) (place_of account) (state book.now) figures.old }
 {
-    if figures.len() != FIGURES {
+    let Some(figures) = figures.as_mut_array::<FIGURES>() else {
         return u8::from(Refusal::WrongLength);
-    }
+    };
     let tables = Tables {
         clearing,
         own,
@@ -151,11 +149,11 @@ pub extern "C" fn single_limit_report<'a>(
     };
     match engine::report(book, tables, account) {
         Ok(found) => {
-            figures.copy_from_slice(&found.five());
+            *figures = found.five();
             DONE
         }
         Err(refusal) => {
-            figures.copy_from_slice(&[0; FIGURES]);
+            *figures = [0; FIGURES];
             u8::from(refusal)
         }
     }
@@ -198,16 +196,16 @@ pub extern "C" fn single_limit_app<'a>(
 pub extern "C" fn single_limit_app_read(bits: &[u64], figures: &mut [f64]) -> u8
     ensures { filled result figures ≡ filled_floats bits.now figures.old }
 {
-    if figures.len() != FIGURES {
+    let Some(figures) = figures.as_mut_array::<FIGURES>() else {
         return u8::from(Refusal::WrongLength);
-    }
+    };
     match app_feed::receive(bits) {
         Ok(read) => {
-            figures.copy_from_slice(&read.five());
+            *figures = read.five();
             DONE
         }
         Err(refusal) => {
-            figures.copy_from_slice(&[0.0; FIGURES]);
+            *figures = [0.0; FIGURES];
             u8::from(refusal)
         }
     }

@@ -48,12 +48,11 @@ impl<'a> Answers<'a> {
         self.out.len().saturating_sub(self.at)
     }
 
-    // What is written.
+    // What is written; of a place past the buffer, which nothing that is put comes to, the whole buffer.
     pub fn written(&self) -> &[u8]
-        requires { self.now.at ≤ length self.now.out.now }
         ensures { result.now ≡ take self.now.at self.now.out.now }
     {
-        &self.out[..self.at]
+        &self.out[..self.at.min(self.out.len())]
     }
 
     fn put(&mut self, text: &[u8])
@@ -75,14 +74,20 @@ impl<'a> Answers<'a> {
         }
     }
 
-    // The figures, each as n8.
+    // The figures, each as n8. They are put through a struct of this function's own: of one that is lent the compiler reads the place and the
+    // buffer anew after each byte, and a refused report took a third longer.
     fn put_figures(&mut self, figures: &[i64])
         requires { self.old.at + 16 * length figures.now ≤ length self.old.out.now }
         ensures { Puts self.old self.new (16 * length figures.now) (hex_of (figure_bytes figures.now)) }
     {
+        let mut line = Answers {
+            out: &mut *self.out,
+            at: self.at,
+        };
         for figure in figures {
-            self.put_bytes(&figure.to_be_bytes());
+            line.put_bytes(&figure.to_be_bytes());
         }
+        self.at = line.at;
     }
 
     // An answer's line: the code, the figures and the newline. Where there is no room for the whole line nothing is written.

@@ -1,24 +1,24 @@
 -- The four answers of the table check: when each is given, and what each says. From code 2: the place that is named is broken, and no place before it; from
 -- code 13: no place is broken, the place that is named is laxer, and none of the own table before it.
 -- Assumes nothing.
-use mathlib.Core.Path.{◌≡◌, refl, ap}
+use mathlib.Core.Path.{◌≡◌, refl, ap, ◌∙◌}
 use mathlib.Core.Bool.{Bool, true, false, not}
 use mathlib.Core.List.{[], ◌∷◌}
-use Prim.Native.Nat.{ℕ, ◌+◌}
+use Prim.Native.Nat.{ℕ, ◌+◌, ◌<◌}
 use native.Mathlib.Omega.{arith}
 use borrow.Author.Tests.{not-false}
 use Rattle.std.specs.Prelude.{Ok, Err}
-use Rattle.whole.specs.Marks.{place_from, check_from}
+use Rattle.whole.specs.Marks.{first_false, place_from, check_from}
 use Rattle.whole.specs.Refusals.{◌gives◌, first_code, wrong_length, broken_number, laxer_own_row}
 use Rattle.whole.proofs.Marks.{true_before, false_at, not_all_of, some_false}
-use Rattle.whole.proofs.Checks.{ok_says, err_says}
+use Rattle.whole.proofs.Checks.{ok_says, err_says, err_by}
 use Rattle.whole.proofs.Pieces.{in_piece}
 use Rattle.whole.proofs.Refusals.{none_holds}
 use Rattle.rates.specs.Units.{assets, row_length, table_length}
 use Rattle.rates.specs.Lent.{Tables}
 use Rattle.rates.specs.Tables.{table_marks, stricter_at, stricter_marks, lengths_right, sound_tables, only_stricter, table_refusals, check_code, check_place, checked, PlaceIsFirst, LaxerIsFirst}
 use Rattle.rates.specs.Tables.{Checked}
-use Rattle.rates.proofs.Counts.{stricter_at_count, stricter_count}
+use Rattle.rates.proofs.Counts.{table_count, stricter_at_count, stricter_count}
 
 module _ (tables : Tables) where
   answer : {code place : ℕ} → code ≡ check_code tables → place ≡ check_place tables
@@ -42,6 +42,14 @@ module _ (tables : Tables) where
         let stop = err_says 0 (table_marks tables) said in
         let unsound = not_all_of (table_marks tables) stop.inside in
         answer (rw (right, unsound) refl) (rw (right, unsound) (omega (arith, stop.place_is)))
+
+    -- the same of a place that is counted
+    pub answers_2_at : {broken : ℕ} → broken ≡ first_false (table_marks tables) → broken < 2056
+        → ◌≡◌ {A = Checked} (record { code = broken_number; place = broken }) (checked tables)
+    unfolding place_from
+    answers_2_at {broken} e h =
+        let q : broken ≡ place_from 0 (table_marks tables) = omega (arith, e) in
+        answers_2 (ap (λ (n : ℕ). Err n) q ∙ err_by 0 (table_marks tables) (omega (arith, e, h, table_count tables right)))
 
     module _ (none : sound_tables tables ≡ true) where
       pub answers_13 : {place : ℕ} → Err place ≡ check_from table_length (stricter_marks tables)

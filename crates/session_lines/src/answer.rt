@@ -36,6 +36,7 @@ impl Session {
     pub(crate) fn answer(&mut self, frame: Frame, answers: &mut Answers<'_>)
         ensures kept { memory_of self.new ≡ (answered (memory_of self.old) frame).memory }
         ensures said { Wrote answers.old answers.new (answered (memory_of self.old) frame).line }
+        ensures held { self.new.line ≡ self.old.line }
     {
         match frame {
             Frame::Parameter { place, number } => put_code(

@@ -25,7 +25,7 @@ impl Line {
         frames::frame_of(&self.bytes[..self.count])
     }
 
-    // One byte more of the line.
+    // One byte more of the line. Of a line that is too long nothing is written any more, so that a long one costs what reading it does.
     #[tactic(auto, using(crate::proofs::stream::Held::held_more, crate::proofs::stream::Held::held_full))]
     pub(crate) fn hold(&mut self, b: u8)
         ensures grown { line_held self.new ≡ grown (line_held self.old) b }
@@ -34,7 +34,7 @@ impl Line {
         if self.count < LONGEST_LINE {
             self.bytes[self.count] = b;
             self.count += 1;
-        } else {
+        } else if self.count != LONGEST_LINE + 1 {
             self.count = LONGEST_LINE + 1;
         }
     }

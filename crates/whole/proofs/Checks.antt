@@ -12,7 +12,7 @@ use lib.Seq.{drop-cons}
 use Rattle.std.specs.Prelude.{Result, Ok, Err}
 use Rattle.std.specs.Result.{IsErr, IsErrAnd, IfErr, MatchResult}
 use Rattle.std.proofs.lemmas.Result.{err_from_is_err_and}
-use Rattle.whole.specs.Marks.{first_false, all_true, check_from, pieces}
+use Rattle.whole.specs.Marks.{first_false, place_from, all_true, check_from, pieces}
 use Rattle.whole.proofs.Tests.{true_not_false}
 
 -- ---- a loop over the numbers of a list, each with the mark f: what is left from number i on
@@ -60,6 +60,12 @@ unfolding check_from first_false
 err_says k [] f = cc
 err_says k (true ∷ ms) f = let h = err_says (suc k) ms f in record { inside = omega (arith, h.inside); place_is = omega (arith, h.place_is) }
 err_says k (false ∷ ms) {e} f = let h : e ≡ k = cc in record { inside = omega arith; place_is = omega arith }
+
+pub err_by : (k : ℕ) (ms : List Bool) → first_false ms < length ms → Err (place_from k ms) ≡ check_from k ms
+unfolding check_from first_false place_from
+err_by k [] h = absurd (omega arith)
+err_by k (true ∷ ms) h = ap (λ (n : ℕ). Err n) (let q : k + suc (first_false ms) ≡ suc k + first_false ms = omega arith in q) ∙ err_by (suc k) ms (omega arith)
+err_by k (false ∷ ms) h = ap (λ (n : ℕ). Err n) (add-zero k)
 
 pub err_inside : (ms : List Bool) (n : ℕ) (r : Result (Unit {0}) ℕ) → length ms ≡ n → r ≡ check_from 0 ms → IfErr r (λ k. k < n)
 err_inside ms n (Ok v) long f = tt

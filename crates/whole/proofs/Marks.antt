@@ -9,10 +9,16 @@ use Prim.Native.Nat.{ℕ, zero, suc, ◌+◌, ◌*◌, ◌≤◌, ◌<◌}
 use native.Mathlib.Nat.{eq-or-lt_of_le, mul-suc, mul-zero}
 use native.Mathlib.Omega.{arith}
 use lib.ListN.{length, get_or, length-append, get_or-map}
-use Rattle.whole.specs.Marks.{first_false, all_true, pieces}
+use Rattle.whole.specs.Marks.{first_false, place_from, all_true, pieces}
 use Rattle.whole.proofs.Tests.{and_left, and_right, true_not_false}
 
 -- ---- the place: every mark before it is true, and the mark at it is false
+pub first_at_most : (ms : List Bool) → first_false ms ≤ length ms
+unfolding first_false
+first_at_most [] = omega arith
+first_at_most (true ∷ ms) = let h = first_at_most ms in omega arith
+first_at_most (false ∷ ms) = omega arith
+
 pub true_before : (ms : List Bool) (k : ℕ) → k < first_false ms → get_or ms k true ≡ true
 unfolding first_false
 true_before [] k h = refl
@@ -25,6 +31,11 @@ unfolding first_false
 false_at [] h = absurd (omega arith)
 false_at (true ∷ ms) h = false_at ms (omega arith)
 false_at (false ∷ ms) h = refl
+
+-- a true mark in front of them, of which nothing is asked: the place is counted past it
+pub first_unasked : (k x : ℕ) (ms : List Bool) → x ≡ place_from (suc k) ms → x ≡ place_from k (true ∷ ms)
+unfolding place_from first_false
+first_unasked k x ms p = omega arith
 
 -- ---- one list after another
 pub first_in : (a b : List Bool) → first_false a < length a → first_false (a ++ b) ≡ first_false a
@@ -52,6 +63,12 @@ unfolding first_false all_true
 all_of [] h = refl
 all_of (true ∷ ms) h = all_of ms (omega arith)
 all_of (false ∷ ms) h = absurd (omega arith)
+
+pub none_false : (ms : List Bool) → all_true ms ≡ true → first_false ms ≡ length ms
+unfolding first_false all_true
+none_false [] e = refl
+none_false (true ∷ ms) e = ap suc (none_false ms e)
+none_false (false ∷ ms) e = true_not_false e
 
 pub not_all_of : (ms : List Bool) → first_false ms < length ms → all_true ms ≡ false
 unfolding first_false all_true

@@ -3,6 +3,9 @@ ghost use Rattle.whole.specs.Codes.{refusal_code, answer_code};
 
 // The codes of document 01's table, "Calls and turning away", and of document 02, by name. specs/Refusals says them again for the definitions.
 
+// Nothing turned the call away.
+pub const DONE: u8 = 0;
+
 // What turns a call away, and its number.
 #[derive(Clone, Copy, Debug, PartialEq, Eq)]
 pub enum Refusal {
@@ -38,12 +41,12 @@ impl From<Refusal> for u8 {
     }
 }
 
-// The code of an answer: 0 where nothing turned the call away.
+// The code of an answer.
 pub fn code(answer: Result<(), Refusal>) -> u8
     ensures { result ≡ answer_code answer }
 {
     match answer {
-        Ok(()) => 0,
+        Ok(()) => DONE,
         Err(refusal) => u8::from(refusal),
     }
 }

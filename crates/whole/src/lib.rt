@@ -1,6 +1,6 @@
 #![tactic(auto)]
 
-mod codes;
+pub mod codes;
 
 ghost use Rattle.std.specs.Prelude.{◌≡◌, map, ◌+◌, ◌<◌, ◌^◌, pos, nat_abs, ◌≤ℤ◌, length};
 ghost use Rattle.std.specs.Int.{w64};

@@ -7,8 +7,8 @@ use mir.Facts.{to_z-of_z}
 use Rattle.rates.specs.Lent.{lent}
 use Rattle.engine.specs.State.{state}
 use Rattle.engine.specs.Refused.{place_of}
-use Rattle.app_feed.specs.Gauge.{gauge_number, gauge_shown}
-use Rattle.app_feed.specs.Feed.{Sent, sent_of, fed_as}
+use Rattle.app_feed.specs.Gauge.{gauge_of, gauge_number, gauge_shown}
+use Rattle.app_feed.specs.Feed.{Sent, sent_of, fed_of, fed_as}
 use Rattle.app_feed.specs.declared.gauge.Gauge.{Gauge}
 use Rattle.app_feed.specs.declared.gauge.Gauge.TheVariants.{Empty}
 use Rattle.engine_c.specs.Face.{Screen, screen_of}
@@ -24,8 +24,9 @@ screened sent meant e k n x =
     (λ i. record { code = k i; bits = sent.bits; gauge = n i; shown = x i })
     ∙ ap (λ (s : Sent). record { code = s.fed.code; bits = s.bits; gauge = gauge_number s.fed.gauge; shown = gauge_shown s.fed.gauge }) e
 
--- the code and the gauge are the feed's
+-- the code and the gauge are the feed's; of a refused one, whose figures are zeros, the gauge is empty
 told : (c : After-shown) → c.match-fed.code ≡ ((fed_as c.feed-fed.result).code, (fed_as c.feed-fed.result).gauge)
+unfolding fed_of gauge_of
 told c =
     elim c.match-fed.branch [ in-Ok w ↦ rw w.in-Ok.is w.code-is | in-Err w ↦ rw w.in-Err.is (w.code-is ∙ ap (λ (n : ℕ). (n, Empty)) w.from.ensures) ]
 

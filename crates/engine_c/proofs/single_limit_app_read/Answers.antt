@@ -15,20 +15,18 @@ zeros : let z = of_bits binary64 0 in ◌≡◌ {A = List Float} (z ∷ z ∷ z 
 unfolding floats_of of_int of_bits
 zeros = refl
 
-pub returns-then-figures-ne-FIGURES : goal.returns-then-figures-ne-FIGURES
+pub returns-in_default : goal.returns-in_default
 unfolding filled_floats
-returns-then-figures-ne-FIGURES c = rw c.from.ensures (turned_away _ _ _ c.if-figures-ne-FIGURES.true)
+returns-in_default c = rw c.from.ensures (turned_away _ _ _ c.in_default.ensures.cases)
 
 pub returns-in-Ok : goal.returns-in-Ok
 unfolding filled_floats
 returns-in-Ok c =
     let r = c.in-Ok.ensures in
-    taken c.args.figures.now c.if-figures-ne-FIGURES.false (ap (λ (r : Received). r.code) r)
-    (c.copy_from_slice.ensures.after ∙ c.five.ensures ∙ ap (λ (r : Received). five r.figures) r)
+    taken c.args.figures.now c.in-Some.ensures.cases.long (ap (λ (r : Received). r.code) r) (c.five.ensures ∙ ap (λ (r : Received). five r.figures) r)
 
 pub returns-in-Err : goal.returns-in-Err
 unfolding filled_floats
 returns-in-Err c =
     let r = c.in-Err.ensures in
-    taken c.args.figures.now c.if-figures-ne-FIGURES.false (c.from-in-Err.ensures ∙ ap (λ (r : Received). r.code) r)
-    (c.copy_from_slice-in-Err.ensures.after ∙ zeros ∙ ap (λ (r : Received). five r.figures) r)
+    taken c.args.figures.now c.in-Some.ensures.cases.long (c.from-in-Err.ensures ∙ ap (λ (r : Received). r.code) r) (zeros ∙ ap (λ (r : Received). five r.figures) r)

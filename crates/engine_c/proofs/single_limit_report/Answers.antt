@@ -11,26 +11,26 @@ use Rattle.engine_c.specs.Face.{filled_report}
 use Rattle.engine_c.proofs.Filling.{turned_away, taken}
 use Rattle.engine_c.proofs.single_limit_report.Goals as goal
 
-pub returns-then-figures-ne-FIGURES : goal.returns-then-figures-ne-FIGURES
+pub returns-in_default : goal.returns-in_default
 unfolding filled_report
-returns-then-figures-ne-FIGURES c = rw c.from.ensures (turned_away _ _ _ c.if-figures-ne-FIGURES.true)
+returns-in_default c = rw c.from.ensures (turned_away _ _ _ c.in_default.ensures.cases)
 
 pub returns-in-Ok : goal.returns-in-Ok
 unfolding filled_report
 returns-in-Ok c =
     let a = c.args in
-    let l = c.if-figures-ne-FIGURES.false in
+    let l = c.in-Some.ensures.cases.long in
     let r = c.in-Ok.ensures
     ∙ ap (λ (z : ℤ). report_of (lent a.clearing a.own a.groups) (place_of z) (state a.book.now)) (to_z-of_z c.ranges.account) in
     taken a.figures.now l (ap (λ (r : Reported). r.code) r)
-    (c.copy_from_slice.ensures.after ∙ c.five.ensures ∙ ap (λ (r : Reported). five r.figures) r)
+    (c.five.ensures ∙ ap (λ (r : Reported). five r.figures) r)
 
 pub returns-in-Err : goal.returns-in-Err
 unfolding filled_report
 returns-in-Err c =
     let a = c.args in
-    let l = c.if-figures-ne-FIGURES.false in
+    let l = c.in-Some.ensures.cases.long in
     let r = c.in-Err.ensures
     ∙ ap (λ (z : ℤ). report_of (lent a.clearing a.own a.groups) (place_of z) (state a.book.now)) (to_z-of_z c.ranges.account) in
     taken a.figures.now l (c.from-in-Err.ensures ∙ ap (λ (r : Reported). r.code) r)
-    (c.copy_from_slice-in-Err.ensures.after ∙ ap (λ (r : Reported). five r.figures) r)
+    (ap (λ (r : Reported). five r.figures) r)

@@ -6,4 +6,4 @@ use Rattle.frames.specs.Answer.{figure_bytes, Puts}
 use Rattle.frames.proofs.answer.Answers.put_figures.Given as goal
 
 abbrev pub invariant-loop-figure : goal.invariant-loop-figure
-invariant-loop-figure l = Puts l.initial.self l.self (16 * l.figure-index) (hex_of (figure_bytes (take l.figure-index l.figures)))
+invariant-loop-figure l = Puts l.initial.line l.line (16 * l.figure-index) (hex_of (figure_bytes (take l.figure-index l.figures)))
