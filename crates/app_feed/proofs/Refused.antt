@@ -17,12 +17,12 @@ use Rattle.whole.proofs.Machine.{back}
 use Rattle.rates.specs.Lent.{Tables}
 use Rattle.engine.specs.State.{State}
 use Rattle.engine.specs.Refused.{place_of, report_refusals}
-use Rattle.engine.specs.Report.{Reported, report_of}
+use Rattle.engine.specs.Report.{Reported, no_figures, report_of}
 use Rattle.engine.proofs.Exits.{refusal_not_0}
 use Rattle.app_feed.specs.Gauge.{gauge_of}
 use Rattle.app_feed.specs.Feed.{feed_refusals, fed_of, fed_as, Sent, sent_of}
 use Rattle.app_feed.specs.declared.feeding.Fed.{Fed as Feeding}
-use Rattle.app_feed.proofs.Sending.{sends_nothing}
+use Rattle.app_feed.proofs.Sending.{report_wrong, sends_nothing}
 
 module _ (tables : Tables) (account : ℤ) (s : State) {r : Reported} where
   -- the account is read back as it was
@@ -50,3 +50,11 @@ module _ (tables : Tables) (i : ℕ) (s : State) (bits : List ℕ) where
       ap (λ (r : Result Feeding Refusal). record { fed = fed_as r; bits = bits }) p.1
       ∙ ap (λ (refusal : Refusal). record { fed = fed_as (Err refusal); bits = bits }) p.2
       ∙ zeros refusal e
+
+-- of a report that was turned away, whichever way the code goes from there
+pub turned : (tables : Tables) (account : ℤ) (s : State) (bits : List ℕ) (refusal : Refusal) → SFits w64 account → length bits ≡ 5
+    → ◌≡◌ {A = Reported} (record { code = refusal_code refusal; figures = no_figures }) (report_of tables (place_of (back account)) s)
+    → ◌≡◌ {A = Sent} (record { fed = fed_as (Err refusal); bits = bits }) (sent_of tables (place_of account) s bits)
+turned tables account s bits refusal f long e =
+    zeros tables (place_of account) s bits refusal
+    (report_wrong tables (place_of account) s bits long (code_is tables account s (told tables account s f e)) (refusal_not_0 refusal))

@@ -21,6 +21,7 @@ pub struct Fed {
 
 // Feed an account's report to the app; unless refused, the floats' bits go to the five lent numbers. The figures of one block are always below 2^53
 // in size; those of a settlement code need not be, so they are looked at.
+#[tactic(auto, using(crate::proofs::Refused::turned))]
 pub fn feed(
     book: &[i64],
     tables: Tables<'_>,

@@ -3,6 +3,7 @@
 use mathlib.Core.Path.{◌≡◌, sym, ap, ◌∙◌}
 use mathlib.Core.Bool.{true, false}
 use Prim.Native.Nat.{ℕ}
+use borrow.Author.Rules.{rules}
 use borrow.Author.Tests.{eq-eqb, ne_eqb}
 use Rattle.std.specs.Prelude.{Option, None, Result, Ok, Err}
 use Rattle.std.specs.Option.{ok_or}
@@ -99,11 +100,13 @@ numbers : (c : After-check_numbers) → c.check_numbers.result ≡ check_from 0 
 numbers c = c.check_numbers.ensures ∙ ap (λ (tables : Tables). check_from 0 (table_marks tables)) (same c.before)
 
 none : (c : In_ok-map_err) → sound_tables (numbers_of c.args.tables) ≡ true
-none c = none_broken _ _ (numbers c.before.before.before) (sym (told BrokenNumber _ _ c.map_err.ensures.cases) ∙ c.in_ok-map_err.was)
+none c =
+    let t = told BrokenNumber c.before.before.before.check_numbers.result c.map_err.result (search rules) in
+    none_broken _ _ (numbers c.before.before.before) (sym t ∙ c.in_ok-map_err.was)
 
 pub returns-in_err-map_err : goal.returns-in_err-map_err
 returns-in_err-map_err c =
-    let t = told BrokenNumber _ _ c.map_err.ensures.cases in
+    let t = told BrokenNumber c.before.before.before.before.check_numbers.result c.map_err.result (search rules) in
     ap checked_as (handed_on _ c.from_residual-in_err-map_err.ensures ∙ sym c.in_err-map_err.was ∙ t)
     ∙ broken _ (right c.before.before.before.before.before) _ (numbers c.before.before.before.before) (sym t ∙ c.in_err-map_err.was)
 
